@@ -1,0 +1,4 @@
+pub mod Cases
+pub mod Gap
+pub mod SimplifyCases
+pub mod Ways
