@@ -1,4 +1,9 @@
 pub mod Cases
 pub mod Gap
 pub mod SimplifyCases
+pub mod SimplifyTruth
+pub mod SimplifyForm
+pub mod Numbers
+pub mod OneSpelling
+pub mod QuestionOrder
 pub mod Ways

@@ -1,6 +1,8 @@
 -- The order of questions (document 01, "Question order"; document 000, Definition 27).
 use Prim.Native.Nat.{ℕ}
-use mathlib.Core.Bool.{Bool, true, false, cond, _&&_, _||_}
+use mathlib.Core.Path.{_≡_}
+use mathlib.Core.Logic.{_≢_, _⊎_}
+use mathlib.Core.Bool.{Bool, true, false, _&&_, _||_}
 use mathlib.Core.List.{List, [], _∷_}
 use lib.Dec.{eqb, ltb}
 use Rattle.terms.specs.declared.term.Equation.{Equation}
@@ -21,3 +23,9 @@ fields-first e = e .left .field .0 ∷ e .right .field .0 ∷ e .left .steps .0 
 
 abbrev pub before : Order → Equation → Equation → Bool
 before order p q = lex (order p) (order q)
+
+-- "a total order ≺ on simplified guards" (Definition 27), here of all equations
+pub record StrictTotal (precedes : Equation → Equation → Bool) : Type 0 where
+  pub irreflexive : (p : Equation) → precedes p p ≡ false
+  pub transitive : (p q r : Equation) → precedes p q ≡ true → precedes q r ≡ true → precedes p r ≡ true
+  pub total : (p q : Equation) → p ≢ q → (precedes p q ≡ true) ⊎ (precedes q p ≡ true)

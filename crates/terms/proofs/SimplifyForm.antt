@@ -1,0 +1,110 @@
+-- A question that simplify returns has the larger field left, no steps on one side, and none on the left if its right side is a number;
+-- nothing in simplify changes such an equation, and turning an equation round is undone by its first step.
+use Prim.Native.Nat.{ℕ, zero, suc, _+_, _-_, _≤_, _<_, min}
+use mathlib.Core.Path.{_≡_, refl, sym, ap, ap₂, _∙_}
+use mathlib.Core.Logic.{_≢_, _↔_}
+use mathlib.Core.Bool.{Bool, true, false, cond, _&&_}
+use native.Mathlib.Omega.{arith}
+use borrow.Author.Tests.{eq-eqb, ne-eqb, lt-ltb, le-ltb}
+use native.Mathlib.Nat.{sub-zero}
+use native.Mathlib.Decide.{decLe}
+use lib.Dec.{eqb, ltb}
+use Rattle.terms.specs.declared.term.Equation.{Equation}
+use Rattle.terms.specs.declared.simplification.Guard.{Guard}
+use Rattle.terms.specs.declared.simplification.Guard.the-variants.{Never, Always, Question}
+use Rattle.terms.specs.Form.{Simplified, is-number, is-above, is-below}
+use Rattle.terms.specs.Simplify.{turned, larger-left, lowered, settled, simplify}
+use Rattle.terms.proofs.Cases.{by-eq, by-lt, by-le}
+use Rattle.terms.proofs.SimplifyCases.{Sorted, kept, swapped, settled-cases, simplify-cases}
+use Rattle.terms.proofs.SimplifyTruth.{same-test}
+
+-- ---- the forms
+-- a question with one side bare and the larger field left has one of the forms
+by-numbers : (q : Equation) → q .right .field .0 < q .left .field .0 → min (q .left .steps .0) (q .right .steps .0) ≡ 0
+    → (q .right .field .0 ≡ 0 → q .left .steps .0 ≡ 0) → Simplified q
+by-numbers q h m z =
+    elim (decLe (q .right .field .0) 0) [
+      | yes i ↦ let o : q .right .field .0 ≡ 0 = omega arith in is-number (omega arith) (z o) o
+      | no i ↦ elim (decLe (q .left .steps .0) 0) [
+        | yes j ↦ is-above (omega arith) h (omega arith)
+        | no j ↦ is-below (omega arith) h (omega arith)
+      ]
+    ]
+
+-- what a guard is, if it is a question
+abbrev IfQuestion : (Equation → Type 0) → Guard → Type 0
+IfQuestion P Never = Unit {0}
+IfQuestion P Always = Unit {0}
+IfQuestion P (Question q) = P q
+
+settled-form : (d : Equation) → d .right .field .0 < d .left .field .0 → IfQuestion Simplified (settled (lowered d))
+unfolding lowered
+settled-form d h = settled-cases (IfQuestion Simplified) (lowered d) (λ _ _. tt) (λ z. by-numbers (lowered d) h (omega arith) z)
+
+simplify-form : (e : Equation) → IfQuestion Simplified (simplify e)
+simplify-form e = simplify-cases (IfQuestion Simplified) e (λ _ _. tt) (λ _ _. tt) go
+  where
+    go : (d : Equation) → Sorted e d → IfQuestion Simplified (settled (lowered d))
+    go d (kept h) = settled-form e h
+    go d (swapped h) = settled-form (turned e) h
+
+-- "a question that simplify returns is simplified in the sense of document 000, Corollary 25"
+pub question-simplified : (e q : Equation) → simplify e ≡ Question q → Simplified q
+question-simplified e q i = rw i at (simplify-form e)
+
+-- ---- a simplified question stays
+module _ (q : Equation) where
+  pub smaller-right : Simplified q → q .right .field .0 < q .left .field .0
+  smaller-right (is-number x s z) = omega arith
+  smaller-right (is-above x h s) = h
+  smaller-right (is-below x h s) = h
+
+  pub bare-side : Simplified q → min (q .left .steps .0) (q .right .steps .0) ≡ 0
+  bare-side (is-number x s z) = omega arith
+  bare-side (is-above x h s) = omega arith
+  bare-side (is-below x h s) = omega arith
+
+  pub bare-left : Simplified q → q .right .field .0 ≡ 0 → q .left .steps .0 ≡ 0
+  bare-left (is-number x s z) _ = s
+  bare-left (is-above x h s) _ = s
+  bare-left (is-below x h s) z = absurd (x z)
+
+  stays-larger : q .right .field .0 < q .left .field .0 → larger-left q ≡ q
+  unfolding larger-left
+  stays-larger h = simp (le-ltb (q .left .field .0) (q .right .field .0) (omega arith))
+
+  stays-lowered : min (q .left .steps .0) (q .right .steps .0) ≡ 0 → lowered q ≡ q
+  unfolding lowered
+  stays-lowered m = simp (m, sub-zero)
+
+  stays-settled : (q .right .field .0 ≡ 0 → q .left .steps .0 ≡ 0) → settled q ≡ Question q
+  stays-settled z = settled-cases (λ g. g ≡ Question q) q (λ o h. absurd (omega (arith, z o))) (λ _. refl)
+
+  -- "and simplifies to itself"
+  pub simplified-stays : Simplified q → simplify q ≡ Question q
+  unfolding simplify
+  simplified-stays s =
+      let h = smaller-right s in
+      rw (ne-eqb (q .left .field .0) (q .right .field .0) (omega arith), stays-larger h, stays-lowered (bare-side s)) (stays-settled (bare-left s))
+
+-- ---- the other way round
+sorted-turned : (e : Equation) → e .left .field .0 ≢ e .right .field .0 → larger-left (turned e) ≡ larger-left e
+unfolding larger-left
+sorted-turned e n =
+    by-lt (λ t. cond (ltb (e .right .field .0) (e .left .field .0)) e (turned e) ≡ cond t (turned e) e) (e .left .field .0) (e .right .field .0)
+    (λ h. rw (le-ltb (e .right .field .0) (e .left .field .0) (omega arith)))
+    (λ h. rw (lt-ltb (e .right .field .0) (e .left .field .0) (omega arith)))
+
+eqb-sym : (a b : ℕ) → eqb a b ≡ eqb b a
+eqb-sym a b = same-test a b b a sym sym
+
+-- "an equation written the other way round gets the same answer"
+pub simplify-turned : (e : Equation) → simplify (turned e) ≡ simplify e
+unfolding simplify
+simplify-turned e =
+    rw (eqb-sym (e .right .field .0) (e .left .field .0), eqb-sym (e .right .steps .0) (e .left .steps .0))
+    (by-eq (λ t. cond t same (settled (lowered (larger-left (turned e)))) ≡ cond t same (settled (lowered (larger-left e))))
+    (e .left .field .0) (e .right .field .0) (λ _. refl) (λ n. ap (λ d. settled (lowered d)) (sorted-turned e n)))
+  where
+    same : Guard
+    same = cond (eqb (e .left .steps .0) (e .right .steps .0)) Always Never
