@@ -1,11 +1,10 @@
 -- A claim about a test, or about what a test picks, holds if it holds on either outcome with what that outcome says.
-use Prim.Native.Nat.{ℕ, suc, _≤_, _<_}
+use Prim.Native.Nat.{ℕ, _≤_, _<_}
 use mathlib.Core.Path.{_≡_, refl}
 use mathlib.Core.Logic.{_≢_}
-use mathlib.Core.Bool.{Bool, true, false, cond, not}
-use native.Mathlib.Omega.{arith}
-use lib.Dec.{T, leb, ltb, eqb}
+use mathlib.Core.Bool.{Bool, true, false}
 use borrow.Author.Tests.{ltb-true, ltb-false, leb-true, leb-false, eqb-true, eqb-false}
+use lib.Dec.{leb, ltb, eqb}
 
 module _ {ℓ} (P : Bool → Type ℓ) where
   pub by-test : (t : Bool) → (t ≡ true → P true) → (t ≡ false → P false) → P t

@@ -6,4 +6,5 @@ pub mod SimplifyForm
 pub mod Numbers
 pub mod OneSpelling
 pub mod QuestionOrder
+pub mod TermWords
 pub mod Ways

@@ -1,5 +1,4 @@
 -- Equations are equal if their four numbers are, and four numbers can be compared.
-use Prim.Native.Nat.{ℕ}
 use mathlib.Core.Path.{_≡_}
 use Rattle.terms.specs.declared.term.Equation.{Equation}
 use Rattle.terms.specs.Words.{field, steps, term, equation}

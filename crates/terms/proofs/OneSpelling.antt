@@ -1,9 +1,9 @@
 -- Two different simplified questions differ in truth under some choice of counts: let every field count its number times a large number,
 -- but the first question's left field what that question says; then the second can be true only if it is the first.
 use Prim.Native.Nat.{ℕ, zero, suc, _+_, _-_, _*_, _/_, _≤_, _<_}
-use mathlib.Core.Path.{_≡_, refl, sym, ap, ap₂, _∙_}
+use mathlib.Core.Path.{_≡_, refl, sym, ap, _∙_}
 use mathlib.Core.Logic.{_≢_}
-use mathlib.Core.Bool.{Bool, true, false, cond}
+use mathlib.Core.Bool.{true, cond}
 use native.Mathlib.Omega.{arith}
 use native.Mathlib.Nat.{suc-mul}
 use native.Mathlib.Decide.{ℕ-discrete}
@@ -13,8 +13,8 @@ use lib.Dec.{eqb}
 use Rattle.terms.specs.declared.term.Field.{Field}
 use Rattle.terms.specs.declared.term.Equation.{Equation}
 use Rattle.terms.specs.Meaning.{Valuation, count, value, truth}
-use Rattle.terms.specs.Form.{Simplified, is-number, is-above, is-below}
-use Rattle.terms.specs.Words.{field, steps, term, equation}
+use Rattle.terms.specs.Form.{Simplified}
+use Rattle.terms.specs.Words.{field, steps}
 use Rattle.terms.proofs.Cases.{by-eq}
 use Rattle.terms.proofs.Numbers.{same-equation}
 use Rattle.terms.proofs.SimplifyForm.{smaller-right, bare-side, bare-left}
@@ -66,10 +66,10 @@ module _ (p q : Equation) (sp : Simplified p) (sq : Simplified q) where
   unfolding unit
   same-left x e =
       let y : p .right .field .0 ≡ q .right .field .0 = same-unit (p .right .field .0) (q .right .field .0) m
-          (p .right .steps .0 + q .left .steps .0) (q .right .steps .0 + p .left .steps .0) (omega arith) (omega arith)
-          (omega (arith, ap (λ n. count v (field n)) x, count-left, count-other (q .right .field) (λ i. omega (arith, smaller-right q sq)), enough)) in
+      (p .right .steps .0 + q .left .steps .0) (q .right .steps .0 + p .left .steps .0) (omega arith) (omega arith)
+      (omega (arith, ap (λ n. count v (field n)) x, count-left, count-other (q .right .field) (λ i. omega (arith, smaller-right q sq)), enough)) in
       let s : p .right .steps .0 + q .left .steps .0 ≡ q .right .steps .0 + p .left .steps .0 =
-          omega (arith, ap (λ n. count v (field n)) x, count-left, count-other (q .right .field) (λ i. omega (arith, smaller-right q sq)), enough, ap (λ n. n * m) y) in
+      omega (arith, ap (λ n. count v (field n)) x, count-left, count-other (q .right .field) (λ i. omega (arith, smaller-right q sq)), enough, ap (λ n. n * m) y) in
       same-equation p q (sym x) (omega (arith, bare-side p sp, bare-side q sq)) y (omega (arith, bare-side p sp, bare-side q sq))
 
   other-left : q .left .field .0 ≢ p .left .field .0 → value v (q .left) ≡ value v (q .right) → ⊥
@@ -77,13 +77,13 @@ module _ (p q : Equation) (sp : Simplified p) (sq : Simplified q) where
   other-left n e = elim (ℕ-discrete (q .right .field .0) (p .left .field .0)) [
     | yes x ↦
         let y : q .left .field .0 ≡ p .right .field .0 = same-unit (q .left .field .0) (p .right .field .0) m
-            (q .left .steps .0 + p .left .steps .0) (p .right .steps .0 + q .right .steps .0) (omega arith) (omega arith)
-            (omega (arith, count-other (q .left .field) n, ap (λ k. count v (field k)) x, count-left, enough)) in
+        (q .left .steps .0 + p .left .steps .0) (p .right .steps .0 + q .right .steps .0) (omega arith) (omega arith)
+        (omega (arith, count-other (q .left .field) n, ap (λ k. count v (field k)) x, count-left, enough)) in
         omega (arith, smaller-right p sp, smaller-right q sq)
     | no o ↦
         let y : q .left .field .0 ≡ q .right .field .0 = same-unit (q .left .field .0) (q .right .field .0) m
-            (q .left .steps .0) (q .right .steps .0) (omega arith) (omega arith)
-            (omega (arith, count-other (q .left .field) n, count-other (q .right .field) o)) in
+        (q .left .steps .0) (q .right .steps .0) (omega arith) (omega arith)
+        (omega (arith, count-other (q .left .field) n, count-other (q .right .field) o)) in
         omega (arith, smaller-right q sq)
   ]
 

@@ -1,8 +1,8 @@
 -- A claim about what an equation simplifies to holds if it holds on each line of the definition with what that line says.
-use Prim.Native.Nat.{ℕ, _≤_, _<_}
-use mathlib.Core.Path.{_≡_, refl}
+use Prim.Native.Nat.{_<_}
+use mathlib.Core.Path.{_≡_}
 use mathlib.Core.Logic.{_≢_}
-use mathlib.Core.Bool.{cond, true, false, _&&_}
+use mathlib.Core.Bool.{cond, _&&_}
 use native.Mathlib.Omega.{arith}
 use lib.Dec.{eqb, ltb}
 use Rattle.terms.specs.declared.term.Equation.{Equation}

@@ -1,20 +1,22 @@
 -- A question that simplify returns has the larger field left, no steps on one side, and none on the left if its right side is a number;
 -- nothing in simplify changes such an equation, and turning an equation round is undone by its first step.
-use Prim.Native.Nat.{ℕ, zero, suc, _+_, _-_, _≤_, _<_, min}
-use mathlib.Core.Path.{_≡_, refl, sym, ap, ap₂, _∙_}
-use mathlib.Core.Logic.{_≢_, _↔_}
-use mathlib.Core.Bool.{Bool, true, false, cond, _&&_}
+use Prim.Native.Nat.{ℕ, _≤_, _<_, min}
+use mathlib.Core.Path.{_≡_, refl, sym, ap}
+use mathlib.Core.Logic.{_≢_}
+use mathlib.Core.Bool.{cond}
 use native.Mathlib.Omega.{arith}
-use borrow.Author.Tests.{eq-eqb, ne-eqb, lt-ltb, le-ltb}
 use native.Mathlib.Nat.{sub-zero}
 use native.Mathlib.Decide.{decLe}
+use borrow.Author.Tests.{ne-eqb, lt-ltb, le-ltb}
 use lib.Dec.{eqb, ltb}
+use lib.IntN.{natAbs}
 use Rattle.terms.specs.declared.term.Equation.{Equation}
 use Rattle.terms.specs.declared.simplification.Guard.{Guard}
 use Rattle.terms.specs.declared.simplification.Guard.the-variants.{Never, Always, Question}
 use Rattle.terms.specs.Form.{Simplified, is-number, is-above, is-below}
-use Rattle.terms.specs.Simplify.{turned, larger-left, lowered, settled, simplify}
-use Rattle.terms.proofs.Cases.{by-eq, by-lt, by-le}
+use Rattle.terms.specs.Simplify.{turned, larger-left, lowered, settled, simplify, gap}
+use Rattle.terms.proofs.Cases.{by-eq, by-lt}
+use Rattle.terms.proofs.Gap.{difference-abs}
 use Rattle.terms.proofs.SimplifyCases.{Sorted, kept, swapped, settled-cases, simplify-cases}
 use Rattle.terms.proofs.SimplifyTruth.{same-test}
 
@@ -108,3 +110,22 @@ simplify-turned e =
   where
     same : Guard
     same = cond (eqb (e .left .steps .0) (e .right .steps .0)) Always Never
+
+-- ---- the gap's range
+-- no step count of a guard's question is above n
+abbrev StepsUpTo : ℕ → Guard → Type 0
+StepsUpTo n = IfQuestion (λ q. (q .left .steps .0 ≤ n) × (q .right .steps .0 ≤ n))
+
+simplify-steps : (n : ℕ) (e : Equation) → e .left .steps .0 ≤ n → e .right .steps .0 ≤ n → StepsUpTo n (simplify e)
+unfolding lowered
+simplify-steps n e h k = simplify-cases (StepsUpTo n) e (λ _ _. tt) (λ _ _. tt) go
+  where
+    go : (d : Equation) → Sorted e d → StepsUpTo n (settled (lowered d))
+    go d (kept _) = settled-cases (StepsUpTo n) (lowered e) (λ _ _. tt) (λ _. omega arith)
+    go d (swapped _) = settled-cases (StepsUpTo n) (lowered (turned e)) (λ _ _. tt) (λ _. omega arith)
+
+-- "a signed number from -255 to 255"
+pub gap-within : (n : ℕ) (e q : Equation) → e .left .steps .0 ≤ n → e .right .steps .0 ≤ n → simplify e ≡ Question q → natAbs (gap q) ≤ n
+gap-within n e q h k i =
+    let s : (q .left .steps .0 ≤ n) × (q .right .steps .0 ≤ n) = rw i at (simplify-steps n e h k) in
+    difference-abs n (q .right .steps .0) (q .left .steps .0) (s .1) (s .0)

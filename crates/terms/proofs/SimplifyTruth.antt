@@ -1,17 +1,15 @@
 -- Simplifying keeps an equation's truth: turning it round and taking the same steps off both sides change neither side's comparison,
 -- and a count plus some steps is never zero.
-use Prim.Native.Nat.{ℕ, zero, suc, _+_, _-_, _*_, _≤_, _<_, min}
-use mathlib.Core.Path.{_≡_, refl, sym, ap, _∙_}
+use Prim.Native.Nat.{ℕ, _+_}
+use mathlib.Core.Path.{_≡_, sym, ap, _∙_}
 use mathlib.Core.Logic.{_≢_, _↔_}
-use mathlib.Core.Bool.{Bool, true, false, cond}
+use mathlib.Core.Bool.{true}
 use native.Mathlib.Omega.{arith}
 use borrow.Author.Tests.{eqb-true, eq-eqb, ne-eqb}
 use lib.Dec.{eqb}
 use lib.IntN.{ℤ, pos, negℤ, _+ℤ_, _-ℤ_, +ℤ-assoc, +ℤ-negℤ-cancel, -ℤ-+ℤ-cancel}
 use Rattle.terms.specs.declared.term.Field.{Field}
 use Rattle.terms.specs.declared.term.Equation.{Equation}
-use Rattle.terms.specs.declared.simplification.Guard.{Guard}
-use Rattle.terms.specs.declared.simplification.Guard.the-variants.{Never, Always, Question}
 use Rattle.terms.specs.Meaning.{Valuation, count, value, truth, guard-truth}
 use Rattle.terms.specs.Simplify.{turned, lowered, settled, simplify, gap}
 use Rattle.terms.proofs.Cases.{by-eq}
@@ -62,7 +60,7 @@ module _ (a b l r : ℕ) where
   without-gap : pos a ≡ pos b +ℤ (pos r -ℤ pos l) → a + l ≡ b + r
   without-gap e =
       let sums : pos (a + l) ≡ pos (b + r) =
-          ap (λ (z : ℤ). z +ℤ pos l) e ∙ +ℤ-assoc (pos b) (pos r -ℤ pos l) (pos l) ∙ ap (λ (z : ℤ). pos b +ℤ z) (-ℤ-+ℤ-cancel (pos r) (pos l)) in
+      ap (λ (z : ℤ). z +ℤ pos l) e ∙ +ℤ-assoc (pos b) (pos r -ℤ pos l) (pos l) ∙ ap (λ (z : ℤ). pos b +ℤ z) (-ℤ-+ℤ-cancel (pos r) (pos l)) in
       cc
 
 -- "left count = right count + gap"

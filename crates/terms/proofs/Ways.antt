@@ -1,11 +1,11 @@
 -- What each definition of specs/Simplify is on each way through the code: the tests on that way decide its own tests.
-use Prim.Native.Nat.{ℕ, zero, suc, _+_, _*_, _-_, _≤_, _<_, _^_, min}
-use mathlib.Core.Path.{_≡_, refl, sym, ap, _∙_}
+use Prim.Native.Nat.{ℕ, _≤_, _<_, _^_, min}
+use mathlib.Core.Path.{_≡_}
 use mathlib.Core.Logic.{_≢_}
-use mathlib.Core.Bool.{Bool, true, false, cond, _&&_, and-false}
+use mathlib.Core.Bool.{Bool, true, false, and-false}
 use native.Mathlib.Omega.{arith}
 use borrow.Author.Tests.{lt-ltb, le-ltb, le-leb, lt-leb, eq-eqb, ne-eqb}
-use lib.Dec.{leb, ltb, eqb}
+use lib.Dec.{leb}
 use lib.IntN.{ℤ}
 use mir.Syntax.{w32}
 use mir.Val.{SFits, toZ, ofZ}
@@ -15,10 +15,11 @@ use Rattle.terms.specs.declared.term.TermLimits.{TermLimits}
 use Rattle.terms.specs.declared.term.Equation.{Equation}
 use Rattle.terms.specs.declared.simplification.Guard.{Guard}
 use Rattle.terms.specs.declared.simplification.Guard.the-variants as guard
+use Rattle.terms.specs.declared.simplification.Answer.{Answer}
 use Rattle.terms.specs.declared.simplification.Simplified.{Simplified}
 use Rattle.terms.specs.declared.simplification.Simplified.the-variants.{Refused, Never, Always, Question}
 use Rattle.terms.specs.Words.{equation, term-of, word-of, allows}
-use Rattle.terms.specs.Simplify.{turned, larger-left, less-steps, lowered, settled, simplify, gap, shown, HasWords, simplify-words}
+use Rattle.terms.specs.Simplify.{turned, larger-left, less-steps, lowered, settled, simplify, gap, shown, HasWords, simplify-words, answer}
 use Rattle.terms.proofs.SimplifyCases.{Sorted, kept, swapped, settled-cases, simplify-cases}
 
 module _ (limits : TermLimits) (t : Term) where
@@ -112,3 +113,12 @@ module _ (limits : TermLimits) (l r : ℕ) {s t : Term} (es : s ≡ term-of l) (
 pub read-words : {l r : ℕ} {s t : Term} {g : Guard} → l < 2 ^ 32 → r < 2 ^ 32 → s ≡ term-of l → t ≡ term-of r → g ≡ simplify (equation s t) → HasWords g
 read-words {l} {r} {s} {t} h k es et eg =
     rw eg (simplify-words-fit (equation s t) (rw es (omega arith)) (rw et (omega arith)))
+
+-- ---- the answer in numbers
+module _ {s : Simplified} where
+  pub answers : {t : Simplified} {a : Answer} → s ≡ t → a ≡ answer t → a ≡ answer s
+  answers e d = rw e d
+
+  pub answers-question : {l r : ℕ} {z : ℤ} → s ≡ Question l r z → SFits w32 z
+      → record { number = 0; result = 2; left = l; right = r; gap = toZ w32 (ofZ w32 z) } ≡ answer s
+  answers-question e f = rw (toZ-ofZ f, e)

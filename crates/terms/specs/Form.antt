@@ -1,5 +1,5 @@
 -- The forms of a simplified question (document 000, Corollary 25).
-use Prim.Native.Nat.{ℕ, _<_}
+use Prim.Native.Nat.{_<_}
 use mathlib.Core.Path.{_≡_}
 use mathlib.Core.Logic.{_≢_}
 use Rattle.terms.specs.declared.term.Equation.{Equation}

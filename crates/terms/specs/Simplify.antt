@@ -1,6 +1,6 @@
 -- Simplifying an equation of two terms (document 01, "Simplifying an equation of two terms"; document 000, Definition 24).
 use Prim.Native.Nat.{ℕ, _-_, _<_, _^_, min}
-use mathlib.Core.Bool.{Bool, true, false, cond, _&&_}
+use mathlib.Core.Bool.{cond, _&&_}
 use lib.Dec.{eqb, ltb}
 use lib.IntN.{ℤ, pos, _-ℤ_}
 use Rattle.terms.specs.declared.term.Term.{Term}
@@ -8,6 +8,7 @@ use Rattle.terms.specs.declared.term.TermLimits.{TermLimits}
 use Rattle.terms.specs.declared.term.Equation.{Equation}
 use Rattle.terms.specs.declared.simplification.Guard.{Guard}
 use Rattle.terms.specs.declared.simplification.Guard.the-variants as guard
+use Rattle.terms.specs.declared.simplification.Answer.{Answer}
 use Rattle.terms.specs.declared.simplification.Simplified.{Simplified}
 use Rattle.terms.specs.declared.simplification.Simplified.the-variants.{Refused, Never, Always, Question}
 use Rattle.terms.specs.Words.{steps, term, equation, term-of, word-of, allows}
@@ -61,17 +62,14 @@ unfoldable pub simplify-words : TermLimits → ℕ → ℕ → Simplified
 simplify-words limits l r =
     cond (allows limits (term-of l) && allows limits (term-of r)) (shown (simplify (equation (term-of l) (term-of r)))) Refused
 
--- "An answer is a number and a result. ... Simplify's result is 0 never, 1 always or 2 a question, with two words and a gap
--- beside it that are zero unless it is 2. On refusal the result is 0"
-pub record Answer : Type 0 where
-  pub number : ℕ
-  pub result : ℕ
-  pub left : ℕ
-  pub right : ℕ
-  pub gap : ℤ
+-- "An answer is a number and a result. ... On refusal the result is 0": an answer with no question beside it
+abbrev pub plain : ℕ → ℕ → Answer
+plain number result = record { number = number; result = result; left = 0; right = 0; gap = pos 0 }
 
+-- "Simplify's result is 0 never, 1 always or 2 a question, with two words and a gap beside it that are zero unless it is 2."
+-- "Simplify gives 35 too"
 abbrev pub answer : Simplified → Answer
-answer Refused = record { number = 35; result = 0; left = 0; right = 0; gap = pos 0 }
-answer Never = record { number = 0; result = 0; left = 0; right = 0; gap = pos 0 }
-answer Always = record { number = 0; result = 1; left = 0; right = 0; gap = pos 0 }
+answer Refused = plain 35 0
+answer Never = plain 0 0
+answer Always = plain 0 1
 answer (Question l r g) = record { number = 0; result = 2; left = l; right = r; gap = g }

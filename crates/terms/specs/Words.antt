@@ -25,11 +25,14 @@ abbrev pub equation : Term → Term → Equation
 equation l r = record { left = l; right = r }
 
 -- "A term word (32 bits) is steps × 32 + field, field being the word's remainder by 32."
-abbrev pub term-of : ℕ → Term
-term-of word = term (field (word % 32)) (steps (word / 32))
+abbrev pub step-weight : ℕ
+step-weight = 32
 
 abbrev pub word-of : Term → ℕ
-word-of t = t .steps .0 * 32 + t .field .0
+word-of t = t .steps .0 * step-weight + t .field .0
+
+abbrev pub term-of : ℕ → Term
+term-of word = term (field (word % step-weight)) (steps (word / step-weight))
 
 -- "A sheet has n fields, numbered 1 to n, n from 0 to 16. ... A term is a field and a number of steps, 0 to 255":
 -- the largest field number and the largest step count of a term. A store's own n takes the place of the 16.

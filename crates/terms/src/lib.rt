@@ -2,8 +2,10 @@
 mod simplification;
 mod term;
 
+pub use simplification::Answer;
 pub use simplification::Guard;
 pub use simplification::Simplified;
+pub use simplification::answer_of;
 pub use simplification::simplify;
 pub use simplification::simplify_equation;
 pub use simplification::simplify_within;

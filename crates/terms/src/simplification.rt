@@ -29,6 +29,15 @@ pub enum Simplified {
     Question { left: u32, right: u32, gap: i32 },
 }
 
+// An answer in document 01's numbers.
+pub struct Answer {
+    pub number: u32,
+    pub result: u32,
+    pub left: u32,
+    pub right: u32,
+    pub gap: i32,
+}
+
 // The equation with its larger field on the left.
 fn larger_left(e: Equation) -> Equation
     ensures { λ r. ⌜ r ≡ spec.larger-left e ⌝ }
@@ -142,4 +151,35 @@ pub fn simplify(left: u32, right: u32) -> Simplified
     ensures { λ r. ⌜ r ≡ spec.simplify-words words.term-limits left right ⌝ }
 {
     simplify_within(term_limits(), left, right)
+}
+
+// The number, result, two words and gap of an answer.
+pub fn answer_of(s: Simplified) -> Answer
+    ensures { λ r. ⌜ r ≡ spec.answer s ⌝ }
+{
+    match s {
+        Simplified::Refused => plain(35, 0),
+        Simplified::Never => plain(0, 0),
+        Simplified::Always => plain(0, 1),
+        Simplified::Question { left, right, gap } => Answer {
+            number: 0,
+            result: 2,
+            left,
+            right,
+            gap,
+        },
+    }
+}
+
+// An answer with no question beside it.
+fn plain(number: u32, result: u32) -> Answer
+    ensures { λ r. ⌜ r ≡ spec.plain number result ⌝ }
+{
+    Answer {
+        number,
+        result,
+        left: 0,
+        right: 0,
+        gap: 0,
+    }
 }

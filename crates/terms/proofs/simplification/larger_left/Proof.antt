@@ -1,15 +1,12 @@
+-- `larger_left` meets its contract: the code's test is the definition's.
 use borrow.Author.Needs.{needs}
 use Rattle.terms.proofs.Ways.{turns, stays}
 use Rattle.terms.proofs.simplification.larger_left.Statement.{statement}
 use Rattle.terms.proofs.simplification.larger_left.Tie as tie
-use Rattle.terms.proofs.simplification.larger_left.Reads as reads
-use Rattle.terms.proofs.simplification.larger_left.Lts as lts
 
--- src/simplification.rt:33:1
 returns : tie.Need-returns
 returns c = search (needs, turns)
 
--- src/simplification.rt:33:1
 returns-2 : tie.Need-returns-2
 returns-2 c = search (needs, stays)
 

@@ -1,0 +1,26 @@
+-- Every case of the table holds: what all its calls give, computed at once, is what the table expects.
+use mathlib.Core.Path.{_≡_, refl}
+use mathlib.Core.List.{List, [], _∷_, map}
+use Rattle.terms.specs.Words.{allows}
+use Rattle.terms.specs.Simplify.{simplify-words, simplify, larger-left, lowered, settled}
+use Rattle.cases.specs.Call.{Outcome, outcomes, Case, Holds}
+use Rattle.cases.specs.Table.{cases}
+
+abbrev pub All {ℓ} : {A : Type ℓ} → (A → Type 0) → List A → Type 0
+All P [] = Unit {0}
+All P (x ∷ xs) = P x × All P xs
+
+found : List Case → List (List Outcome)
+found table = map (λ c. outcomes (c .start) (c .calls)) table
+
+wanted : List Case → List (List Outcome)
+wanted table = map (λ c. c .expected) table
+
+each : (table : List Case) → found table ≡ wanted table → All Holds table
+unfolding found wanted
+each [] e = tt
+each (c ∷ table) e = (cc, each table (cc))
+
+pub cases-hold : All Holds cases
+unfolding found wanted simplify-words allows simplify larger-left lowered settled
+cases-hold = each cases refl
