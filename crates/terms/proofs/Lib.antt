@@ -6,5 +6,6 @@ pub mod SimplifyForm
 pub mod Numbers
 pub mod OneSpelling
 pub mod QuestionOrder
+pub mod QuestionWays
 pub mod TermWords
 pub mod Ways

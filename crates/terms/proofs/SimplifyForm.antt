@@ -3,17 +3,17 @@
 use Prim.Native.Nat.{ℕ, _≤_, _<_, min}
 use mathlib.Core.Path.{_≡_, refl, sym, ap}
 use mathlib.Core.Logic.{_≢_}
-use mathlib.Core.Bool.{cond}
+use mathlib.Core.Bool.{Bool, true, cond, not, _&&_, _||_, false≢true, or-true}
 use native.Mathlib.Omega.{arith}
 use native.Mathlib.Nat.{sub-zero}
 use native.Mathlib.Decide.{decLe}
-use borrow.Author.Tests.{ne-eqb, lt-ltb, le-ltb}
+use borrow.Author.Tests.{eq-eqb, ne-eqb, lt-ltb, le-ltb}
 use lib.Dec.{eqb, ltb}
 use lib.IntN.{natAbs}
 use Rattle.terms.specs.declared.term.Equation.{Equation}
 use Rattle.terms.specs.declared.simplification.Guard.{Guard}
 use Rattle.terms.specs.declared.simplification.Guard.the-variants.{Never, Always, Question}
-use Rattle.terms.specs.Form.{Simplified, is-number, is-above, is-below}
+use Rattle.terms.specs.Form.{is-simplified, Simplified, is-number, is-above, is-below}
 use Rattle.terms.specs.Simplify.{turned, larger-left, lowered, settled, simplify, gap}
 use Rattle.terms.proofs.Cases.{by-eq, by-lt}
 use Rattle.terms.proofs.Gap.{difference-abs}
@@ -88,6 +88,28 @@ module _ (q : Equation) where
   simplified-stays s =
       let h = smaller-right s in
       rw (ne-eqb (q .left .field .0) (q .right .field .0) (omega arith), stays-larger h, stays-lowered (bare-side s)) (stays-settled (bare-left s))
+
+-- ---- the test
+-- a question passes the test exactly if it has one of the forms
+pub is-simplified-says : (q : Equation) → is-simplified q ≡ true → Simplified q
+unfolding is-simplified
+is-simplified-says q =
+    by-lt (λ t. (t && rest) ≡ true → Simplified q) (q .right .field .0) (q .left .field .0)
+    (λ h. by-eq (λ t. (t || (eqb (q .right .steps .0) 0 && not (eqb (q .right .field .0) 0))) ≡ true → Simplified q) (q .left .steps .0) 0
+    (λ s _. by-numbers q h (omega arith) (λ _. s))
+    (λ n. by-eq (λ t. (t && not (eqb (q .right .field .0) 0)) ≡ true → Simplified q) (q .right .steps .0) 0
+    (λ s. by-eq (λ t. not t ≡ true → Simplified q) (q .right .field .0) 0 (λ _ f. absurd (false≢true f)) (λ z _. is-below z h s))
+    (λ _ f. absurd (false≢true f))))
+    (λ _ f. absurd (false≢true f))
+  where
+    rest : Bool
+    rest = eqb (q .left .steps .0) 0 || (eqb (q .right .steps .0) 0 && not (eqb (q .right .field .0) 0))
+
+pub is-simplified-exact : (q : Equation) → Simplified q → is-simplified q ≡ true
+unfolding is-simplified
+is-simplified-exact q (is-number x s z) = simp (lt-ltb (q .right .field .0) (q .left .field .0) (omega arith), eq-eqb _ _ s)
+is-simplified-exact q (is-above x h s) = simp (lt-ltb _ _ h, eq-eqb _ _ s)
+is-simplified-exact q (is-below x h s) = simp (lt-ltb _ _ h, eq-eqb _ _ s, ne-eqb _ _ x, or-true)
 
 -- ---- the other way round
 sorted-turned : (e : Equation) → e .left .field .0 ≢ e .right .field .0 → larger-left (turned e) ≡ larger-left e

@@ -2,7 +2,15 @@
 use Prim.Native.Nat.{_<_}
 use mathlib.Core.Path.{_≡_}
 use mathlib.Core.Logic.{_≢_}
+use mathlib.Core.Bool.{Bool, not, _&&_, _||_}
+use lib.Dec.{eqb, ltb}
 use Rattle.terms.specs.declared.term.Equation.{Equation}
+
+-- The larger field stands left, one side has no steps, and the left none if the right is a number: the forms below, as a test.
+unfoldable pub is-simplified : Equation → Bool
+is-simplified e =
+    ltb (e .right .field .0) (e .left .field .0)
+    && (eqb (e .left .steps .0) 0 || (eqb (e .right .steps .0) 0 && not (eqb (e .right .field .0) 0)))
 
 -- m is the step count of the other side, and may be 0.
 pub data Simplified (e : Equation) : Type 0 where

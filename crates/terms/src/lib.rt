@@ -1,7 +1,10 @@
 // Terms, equations of two terms, and simplifying them.
+mod question;
 mod simplification;
 mod term;
 
+pub use question::is_simplified;
+pub use question::precedes;
 pub use simplification::Answer;
 pub use simplification::Guard;
 pub use simplification::Simplified;
