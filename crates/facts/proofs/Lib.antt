@@ -1,0 +1,12 @@
+pub mod PlanCases
+pub mod PlanWays
+pub mod StateExact
+pub mod StateFree
+pub mod Decided
+pub mod LeastSheet
+pub mod LeastBound
+pub mod Numbered
+pub mod RecordWays
+pub mod Joining
+pub mod WorkedRecord
+pub mod HeldFacts

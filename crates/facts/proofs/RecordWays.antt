@@ -1,0 +1,119 @@
+-- The arrays of a record and its state agree: within the arrays an element is what the state gives, beyond them a field is its own class.
+use Prim.Native.Nat.{ℕ, zero, suc, _+_, _-_, _≤_, _<_}
+use mathlib.Core.Path.{_≡_, refl, sym, ap, ap₂, _∙_, fun-ext}
+use mathlib.Core.Logic.{_≢_}
+use mathlib.Core.Bool.{Bool, true, false, and-false}
+use mathlib.Core.List.{List, [], _∷_}
+use native.Mathlib.Omega.{arith}
+use native.Mathlib.Decide.{ℕ-discrete}
+use borrow.Author.Tests.{eq-eqb, ne-eqb}
+use lib.Dec.{eqb}
+use lib.ListN.{length, getD, set}
+use lib.Seq.{getD-set-same, getD-set-other}
+use native.Mathlib.Numerals.{add-one}
+use Rattle.terms.specs.Words.{equation, word-of}
+use Rattle.terms.proofs.TermWords.{term-of-word-of}
+use Rattle.terms.specs.declared.term.Equation.{Equation}
+use Rattle.facts.specs.declared.record.Facts.{Facts}
+use Rattle.facts.specs.Record.{state, last-field, most-noes, question-at, noes-in, Small, Within, most-joined, Side, field-moved, field-joined}
+use Rattle.facts.specs.State.{State, left-side, right-side, settled, none-settled, free, no-to}
+
+-- inside a list the default does not matter, beyond it it is the value
+pub getD-inside : (xs : List ℕ) (k d e : ℕ) → k < length xs → getD xs k d ≡ getD xs k e
+getD-inside [] k d e h = absurd (omega arith)
+getD-inside (x ∷ xs) zero d e h = refl
+getD-inside (x ∷ xs) (suc k) d e h = getD-inside xs k d e (omega arith)
+
+pub read-class : (f : Facts) {k : ℕ} → length (f .class) ≡ 17 → k ≤ last-field → getD (f .class) k 0 ≡ state f .classes .class k
+read-class f {k} l h = getD-inside (f .class) k 0 k (omega arith)
+
+-- ---- a question is settled
+module _ (f : Facts) (q : Equation) {a b : ℕ} (ea : a ≡ state f .classes .class (q .left .field .0)) (eb : b ≡ state f .classes .class (q .right .field .0)) where
+  pub settled-sides : a ≡ b → {l r : ℕ} → l ≡ left-side (state f .classes) q → r ≡ right-side (state f .classes) q → eqb l r ≡ settled (state f .classes) q
+  settled-sides e el er = rw (← ea, ← eb, ← el, ← er, eq-eqb a b e)
+
+  pub settled-apart : a ≢ b → false ≡ settled (state f .classes) q
+  settled-apart n = rw (← ea, ← eb, ne-eqb a b n)
+
+-- ---- sides of small questions
+module _ {f : Facts} {q : Equation} (w : Within most-joined f) (s : Small q) where
+  pub small-side-left : Side f (q .left)
+  small-side-left = record { on-field = s .left-in; sum-fits = omega (arith, w .offset-in (q .left .field .0) (s .left-in), s .left-steps) }
+
+  pub small-side-right : Side f (q .right)
+  small-side-right = record { on-field = s .right-in; sum-fits = omega (arith, w .offset-in (q .right .field .0) (s .right-in), s .right-steps) }
+
+-- ---- a question answered no
+noes-in-set : (left right : List ℕ) (i x y k : ℕ) → k ≤ i → noes-in (set left i x) (set right i y) k ≡ noes-in left right k
+unfolding noes-in
+noes-in-set left right i x y zero h = refl
+noes-in-set left right i x y (suc k) h =
+    let n : k ≢ i = λ e. omega arith in
+    rw (getD-set-other left i k x 0 n, getD-set-other right i k y 0 n, noes-in-set left right i x y k (omega arith))
+
+-- one question more, at the place after the last
+pub listed-no : (f : Facts) (q : Equation) → Small q → length (f .left) ≡ 20 → length (f .right) ≡ 20 → f .noes < most-noes
+    → {x y : ℕ} → x ≡ word-of (q .left) → y ≡ word-of (q .right)
+    → state (record { class = f .class; offset = f .offset; left = set (f .left) (f .noes) x; right = set (f .right) (f .noes) y; noes = f .noes + 1 }) ≡ no-to (state f) q
+unfolding noes-in
+listed-no f q small ll lr h {x} {y} ex ey = ap (λ (qs : List Equation). record { classes = state f .classes; noes = qs }) noes
+  where
+    newest : question-at (set (f .left) (f .noes) x) (set (f .right) (f .noes) y) (f .noes) ≡ q
+    newest =
+        rw (getD-set-same (f .left) (f .noes) x 0 (omega arith), getD-set-same (f .right) (f .noes) y 0 (omega arith), ex, ey)
+        (ap₂ equation (term-of-word-of (q .left) (omega (arith, small .left-in))) (term-of-word-of (q .right) (omega (arith, small .right-in))))
+
+    noes : noes-in (set (f .left) (f .noes) x) (set (f .right) (f .noes) y) (f .noes + 1) ≡ q ∷ noes-in (f .left) (f .right) (f .noes)
+    noes = rw (add-one, noes-in-set (f .left) (f .right) (f .noes) x y (f .noes) (omega arith)) (ap (λ e. e ∷ noes-in (f .left) (f .right) (f .noes)) newest)
+
+-- ---- one field of a join
+module _ (f : Facts) (i into from by : ℕ) where
+  pub field-moves : getD (f .class) i 0 ≡ from
+      → field-moved f i into by ≡ field-joined f i into from by
+  field-moves e = rw (eq-eqb (getD (f .class) i 0) from e)
+
+  pub field-stays : getD (f .class) i 0 ≢ from → f ≡ field-joined f i into from by
+  field-stays n = rw (ne-eqb (getD (f .class) i 0) from n)
+
+-- ---- the questions answered no, one after the other
+module _ (f : Facts) where
+  pub side-left : {k : ℕ} {q : Equation} → Within most-joined f → q ≡ question-at (f .left) (f .right) k → k < f .noes → Side f (q .left)
+  side-left {k} w e h = rw e (small-side-left w (w .noes-small k h))
+
+  pub side-right : {k : ℕ} {q : Equation} → Within most-joined f → q ≡ question-at (f .left) (f .right) k → k < f .noes → Side f (q .right)
+  side-right {k} w e h = rw e (small-side-right w (w .noes-small k h))
+
+  -- the first k of them are not settled
+  pub record PassedNoes (k : ℕ) : Type 0 where
+    pub up-to : k ≤ f .noes
+    pub unsettled : none-settled (state f .classes) (noes-in (f .left) (f .right) k) ≡ true
+
+  pub passed-none : PassedNoes 0
+  unfolding noes-in
+  passed-none = record { up-to = omega arith; unsettled = refl }
+
+  pub passed-next : {k : ℕ} {q : Equation} {b : Bool} → PassedNoes k → k < f .noes → q ≡ question-at (f .left) (f .right) k
+      → b ≡ settled (state f .classes) q → b ≡ false → PassedNoes (k + 1)
+  unfolding noes-in
+  passed-next {k} p h e d t =
+      let n : settled (state f .classes) (question-at (f .left) (f .right) k) ≡ false = ap (settled (state f .classes)) (sym e) ∙ sym d ∙ t in
+      record { up-to = omega arith; unsettled = rw (add-one, n) (p .unsettled) }
+
+  some-settled : (k n : ℕ) → settled (state f .classes) (question-at (f .left) (f .right) k) ≡ true → k < n
+      → none-settled (state f .classes) (noes-in (f .left) (f .right) n) ≡ false
+  unfolding noes-in
+  some-settled k zero t h = absurd (omega arith)
+  some-settled k (suc n) t h = elim (ℕ-discrete k n) [
+    | yes e ↦ rw (← e, t) refl
+    | no d ↦ rw (some-settled k n t (omega arith), and-false) refl
+  ]
+
+  pub settled-found : (k : ℕ) {q : Equation} {b : Bool} → k < f .noes → q ≡ question-at (f .left) (f .right) k → b ≡ settled (state f .classes) q → b ≡ true
+      → false ≡ free (state f)
+  settled-found k h e d t = sym (some-settled k (f .noes) (ap (settled (state f .classes)) (sym e) ∙ sym d ∙ t) h)
+
+  pub all-passed : {k : ℕ} → PassedNoes k → f .noes ≤ k → true ≡ free (state f)
+  all-passed {k} p l =
+      let u = p .up-to in
+      let e : k ≡ f .noes = omega arith in
+      sym (rw e at (p .unsettled))

@@ -1,0 +1,4 @@
+pub mod Facts
+pub mod State
+pub mod Least
+pub mod Record

@@ -1,0 +1,108 @@
+-- The state that a record of facts stands for, and what the code may rely on.
+use Prim.Native.Nat.{ℕ, zero, suc, _+_, _*_, _^_, _≤_, _<_}
+use mathlib.Core.Path.{_≡_}
+use mathlib.Core.Bool.{true, cond}
+use mathlib.Core.List.{List, [], _∷_}
+use lib.Dec.{eqb}
+use lib.ListN.{length, getD, set}
+use Rattle.terms.specs.declared.term.Equation.{Equation}
+use Rattle.terms.specs.declared.term.Term.{Term}
+use Rattle.terms.specs.Words.{equation, term-of}
+use Rattle.facts.specs.declared.decision.Decision.the-variants.{Open}
+use Rattle.facts.specs.declared.record.Facts.{Facts}
+use Rattle.facts.specs.declared.working.Asked.{Asked}
+use Rattle.facts.specs.declared.working.Worked.{Worked}
+use Rattle.facts.specs.Facts.{Fact}
+use Rattle.facts.specs.State.{Classes, State, free, yes-to, state-of, decide}
+
+-- Fields beyond the arrays are classes of their own.
+abbrev pub classes-in : List ℕ → List ℕ → Classes
+classes-in class offset = record { class = λ f. getD class f f; offset = λ f. getD offset f 0 }
+
+abbrev pub question-at : List ℕ → List ℕ → ℕ → Equation
+question-at left right k = equation (term-of (getD left k 0)) (term-of (getD right k 0))
+
+-- the first so many questions, the newest first
+unfoldable pub noes-in : List ℕ → List ℕ → ℕ → List Equation
+noes-in left right zero = []
+noes-in left right (suc k) = question-at left right k ∷ noes-in left right k
+
+abbrev pub state : Facts → State
+state f = record { classes = classes-in (f .class) (f .offset); noes = noes-in (f .left) (f .right) (f .noes) }
+
+-- the last field that a record has room for, how many questions answered no, and the largest step count of a fact
+abbrev pub last-field : ℕ
+last-field = 16
+
+abbrev pub most-noes : ℕ
+most-noes = 20
+
+abbrev pub most-steps : ℕ
+most-steps = 65535
+
+-- a question on the record's fields, with steps that it can add
+pub record Small (q : Equation) : Type 0 where
+  pub left-in : q .left .field .0 ≤ last-field
+  pub right-in : q .right .field .0 ≤ last-field
+  pub left-steps : q .left .steps .0 ≤ most-steps
+  pub right-steps : q .right .steps .0 ≤ most-steps
+
+abbrev pub AllSmall : List Fact → Type 0
+AllSmall [] = Unit {0}
+AllSmall (x ∷ xs) = Small (x .question) × AllSmall xs
+
+-- The record holds some facts, at most so many, that some choice of counts fits.
+pub record Holds (most : ℕ) (f : Facts) : Type 0 where
+  pub facts : List Fact
+  pub few : length facts ≤ most
+  pub small : AllSmall facts
+  pub is : state f ≡ state-of facts
+  pub fitted : free (state f) ≡ true
+
+-- No offset is above the bound, and all classes and questions are on the record's fields.
+pub record Within (bound : ℕ) (f : Facts) : Type 0 where
+  pub class-in : (k : ℕ) → k ≤ last-field → getD (f .class) k k ≤ last-field
+  pub offset-in : (k : ℕ) → k ≤ last-field → getD (f .offset) k 0 ≤ bound
+  pub noes-few : f .noes ≤ most-noes
+  pub noes-small : (k : ℕ) → k < f .noes → Small (question-at (f .left) (f .right) k)
+
+-- no offset of a record that holds facts is above the first, and after one join none is above the second
+abbrev pub most-offset : ℕ
+most-offset = last-field * (most-steps + 1)
+
+abbrev pub most-joined : ℕ
+most-joined = most-offset + (most-offset + most-steps)
+
+-- what working in and asking require
+pub record Ready (f : Facts) (q : Equation) : Type 0 where
+  pub within : Within most-offset f
+  pub small : Small q
+  pub fitted : free (state f) ≡ true
+
+-- what working a yes in promises: whether the state is free, and, if so, that the record has it
+pub record WorkedYes (f : Facts) (q : Equation) (r : Worked) : Type 0 where
+  pub free-is : r .free ≡ free (yes-to (state f) q)
+  pub state-is : r .free ≡ true → state (r .facts) ≡ yes-to (state f) q
+
+-- what asking promises: the decision, and, if the question is open, the record of a yes
+pub record AskedOf (f : Facts) (q : Equation) (r : Asked) : Type 0 where
+  pub decision-is : r .decision ≡ decide (state f) q
+  pub yes-is : r .decision ≡ Open → state (r .yes) ≡ yes-to (state f) q
+
+-- a term of the record's fields, whose side fits a word
+pub record Side (f : Facts) (t : Term) : Type 0 where
+  pub on-field : t .field .0 ≤ last-field
+  pub sum-fits : getD (f .offset) (t .field .0) 0 + t .steps .0 < 2 ^ 32
+
+-- the i-th field, and room to raise its offset
+pub record CanRaise (f : Facts) (i by : ℕ) : Type 0 where
+  pub in-arrays : i < suc last-field
+  pub raised-fits : getD (f .offset) i 0 + by < 2 ^ 32
+
+-- one field of a join: moved, if it is in the class that is joined
+abbrev pub field-moved : Facts → ℕ → ℕ → ℕ → Facts
+field-moved f i into by =
+    record { class = set (f .class) i into; offset = set (f .offset) i (getD (f .offset) i 0 + by); left = f .left; right = f .right; noes = f .noes }
+
+abbrev pub field-joined : Facts → ℕ → ℕ → ℕ → ℕ → Facts
+field-joined f i into from by = cond (eqb (getD (f .class) i 0) from) (field-moved f i into by) f

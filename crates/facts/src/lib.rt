@@ -1,0 +1,17 @@
+// The facts gathered along a path, and what they force.
+mod decision;
+mod record;
+mod working;
+
+pub use decision::Decision;
+pub use decision::Plan;
+pub use decision::plan_yes;
+pub use record::Facts;
+pub use record::class_of;
+pub use record::no_facts;
+pub use record::offset_of;
+pub use working::Asked;
+pub use working::Worked;
+pub use working::ask;
+pub use working::no;
+pub use working::yes;
