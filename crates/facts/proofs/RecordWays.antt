@@ -15,7 +15,7 @@ use Rattle.terms.specs.Words.{equation, word-of}
 use Rattle.terms.proofs.TermWords.{term-of-word-of}
 use Rattle.terms.specs.declared.term.Equation.{Equation}
 use Rattle.facts.specs.declared.record.Facts.{Facts}
-use Rattle.facts.specs.Record.{state, last-field, most-noes, question-at, noes-in, Small, Within, most-joined, Side, field-moved, field-joined}
+use Rattle.facts.specs.Record.{state, last-field, most-noes, most-steps, question-at, noes-in, Small, Within, most-joined, Side, field-moved, field-joined}
 use Rattle.facts.specs.State.{State, left-side, right-side, settled, none-settled, free, no-to}
 
 -- inside a list the default does not matter, beyond it it is the value
@@ -36,7 +36,7 @@ module _ (f : Facts) (q : Equation) {a b : ℕ} (ea : a ≡ state f .classes .cl
   settled-apart n = rw (← ea, ← eb, ne-eqb a b n)
 
 -- ---- sides of small questions
-module _ {f : Facts} {q : Equation} (w : Within most-joined f) (s : Small q) where
+module _ {f : Facts} {q : Equation} (w : Within most-joined f) (s : Small most-steps q) where
   pub small-side-left : Side f (q .left)
   small-side-left = record { on-field = s .left-in; sum-fits = omega (arith, w .offset-in (q .left .field .0) (s .left-in), s .left-steps) }
 
@@ -52,7 +52,7 @@ noes-in-set left right i x y (suc k) h =
     rw (getD-set-other left i k x 0 n, getD-set-other right i k y 0 n, noes-in-set left right i x y k (omega arith))
 
 -- one question more, at the place after the last
-pub listed-no : (f : Facts) (q : Equation) → Small q → length (f .left) ≡ 20 → length (f .right) ≡ 20 → f .noes < most-noes
+pub listed-no : (f : Facts) (q : Equation) → Small most-steps q → length (f .left) ≡ 20 → length (f .right) ≡ 20 → f .noes < most-noes
     → {x y : ℕ} → x ≡ word-of (q .left) → y ≡ word-of (q .right)
     → state (record { class = f .class; offset = f .offset; left = set (f .left) (f .noes) x; right = set (f .right) (f .noes) y; noes = f .noes + 1 }) ≡ no-to (state f) q
 unfolding noes-in

@@ -83,13 +83,13 @@ module _ (f g : Facts) (e : state g .noes ≡ state f .noes) where
   pub noes-kept : g .noes ≡ f .noes
   noes-kept = sym (noes-length (g .left) (g .right) (g .noes)) ∙ ap length e ∙ noes-length (f .left) (f .right) (f .noes)
 
-  noes-small-kept : ((k : ℕ) → k < f .noes → Small (question-at (f .left) (f .right) k)) → (k : ℕ) → k < g .noes → Small (question-at (g .left) (g .right) k)
+  noes-small-kept : ((k : ℕ) → k < f .noes → Small most-steps (question-at (f .left) (f .right) k)) → (k : ℕ) → k < g .noes → Small most-steps (question-at (g .left) (g .right) k)
   noes-small-kept s k h =
       let same : noes-in (f .left) (f .right) (f .noes) ≡ noes-in (g .left) (g .right) (f .noes) = sym (ap (λ n. noes-in (g .left) (g .right) n) (sym noes-kept) ∙ e) in
-      subst Small (sym (noes-equal (f .left) (f .right) (g .left) (g .right) (f .noes) k same (omega (arith, noes-kept)))) (s k (omega (arith, noes-kept)))
+      subst (Small most-steps) (sym (noes-equal (f .left) (f .right) (g .left) (g .right) (f .noes) k same (omega (arith, noes-kept)))) (s k (omega (arith, noes-kept)))
 
 -- ---- a yes
-clash-not-free : (s : State) → free (planned s Clash) ≡ false
+pub clash-not-free : (s : State) → free (planned s Clash) ≡ false
 clash-not-free s =
     rw (eq-eqb (s .classes .class 0) (s .classes .class 0) refl, eq-eqb (s .classes .offset 0 + 0) (s .classes .offset 0 + 0) refl) refl
 

@@ -4,7 +4,7 @@ use mathlib.Core.Path.{_≡_}
 use mathlib.Core.Bool.{true, cond}
 use mathlib.Core.List.{List, [], _∷_}
 use lib.Dec.{eqb}
-use lib.ListN.{length, getD, set}
+use lib.ListN.{getD, set}
 use Rattle.terms.specs.declared.term.Equation.{Equation}
 use Rattle.terms.specs.declared.term.Term.{Term}
 use Rattle.terms.specs.Words.{equation, term-of}
@@ -40,31 +40,31 @@ most-noes = 20
 abbrev pub most-steps : ℕ
 most-steps = 65535
 
--- a question on the record's fields, with steps that it can add
-pub record Small (q : Equation) : Type 0 where
+-- a question on the record's fields, with no more than so many steps
+pub record Small (most : ℕ) (q : Equation) : Type 0 where
   pub left-in : q .left .field .0 ≤ last-field
   pub right-in : q .right .field .0 ≤ last-field
-  pub left-steps : q .left .steps .0 ≤ most-steps
-  pub right-steps : q .right .steps .0 ≤ most-steps
+  pub left-steps : q .left .steps .0 ≤ most
+  pub right-steps : q .right .steps .0 ≤ most
 
-abbrev pub AllSmall : List Fact → Type 0
-AllSmall [] = Unit {0}
-AllSmall (x ∷ xs) = Small (x .question) × AllSmall xs
+abbrev pub AllSmall : ℕ → List Fact → Type 0
+AllSmall most [] = Unit {0}
+AllSmall most (x ∷ xs) = Small most (x .question) × AllSmall most xs
 
--- The record holds some facts, at most so many, that some choice of counts fits.
-pub record Holds (most : ℕ) (f : Facts) : Type 0 where
+-- The record holds some facts that some choice of counts fits, at most so many answered no, with no more than so many steps.
+pub record Holds (most-no most : ℕ) (f : Facts) : Type 0 where
   pub facts : List Fact
-  pub few : length facts ≤ most
-  pub small : AllSmall facts
+  pub small : AllSmall most facts
   pub is : state f ≡ state-of facts
   pub fitted : free (state f) ≡ true
+  pub few : f .noes ≤ most-no
 
 -- No offset is above the bound, and all classes and questions are on the record's fields.
 pub record Within (bound : ℕ) (f : Facts) : Type 0 where
   pub class-in : (k : ℕ) → k ≤ last-field → getD (f .class) k k ≤ last-field
   pub offset-in : (k : ℕ) → k ≤ last-field → getD (f .offset) k 0 ≤ bound
   pub noes-few : f .noes ≤ most-noes
-  pub noes-small : (k : ℕ) → k < f .noes → Small (question-at (f .left) (f .right) k)
+  pub noes-small : (k : ℕ) → k < f .noes → Small most-steps (question-at (f .left) (f .right) k)
 
 -- no offset of a record that holds facts is above the first, and after one join none is above the second
 abbrev pub most-offset : ℕ
@@ -76,7 +76,7 @@ most-joined = most-offset + (most-offset + most-steps)
 -- what working in and asking require
 pub record Ready (f : Facts) (q : Equation) : Type 0 where
   pub within : Within most-offset f
-  pub small : Small q
+  pub small : Small most-steps q
   pub fitted : free (state f) ≡ true
 
 -- what working a yes in promises: whether the state is free, and, if so, that the record has it

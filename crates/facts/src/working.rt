@@ -120,7 +120,7 @@ pub fn yes(f: Facts, q: Equation) -> Worked
 
 // The facts with a question answered no.
 pub fn no(mut f: Facts, q: Equation) -> Facts
-    requires { ⌜ spec.Small q ⌝ }
+    requires { ⌜ spec.Small spec.most-steps q ⌝ }
     requires { ⌜ f .noes < spec.most-noes ⌝ }
     ensures { λ r. ⌜ spec.state r ≡ state.no-to (spec.state f) q ⌝ }
 {
