@@ -2,10 +2,10 @@
 use Prim.Native.Nat.{ℕ, _+_, _-_, _*_, _≤_, _<_}
 use mathlib.Core.Path.{_≡_, refl, sym, _∙_, ap}
 use mathlib.Core.Logic.{_≢_}
-use mathlib.Core.Bool.{Bool, true, false≢true, cond, not}
-use mathlib.Core.List.{List, [], _∷_}
+use mathlib.Core.Bool.{Bool, true, false≢true, cond, not, and-false}
+use mathlib.Core.List.{List}
 use native.Mathlib.Omega.{arith}
-use borrow.Author.Tests.{leb-true, le-leb, le-ltb, ltb-true, lt-ltb, eqb-true, eqb-false, eq-eqb, ne-eqb, not-true}
+use borrow.Author.Tests.{leb-true, le-leb, le-ltb, ltb-true, lt-ltb, eqb-true, eq-eqb, ne-eqb, not-true}
 use lib.Dec.{eqb, leb, ltb}
 use lib.ListN.{length, getD, drop}
 use lib.Seq.{getD-drop}
@@ -17,7 +17,7 @@ use Rattle.store.specs.Limits.{terms-within}
 use Rattle.store.specs.Open.{list-fault}
 use Rattle.store.specs.Sound as spec
 use Rattle.store.specs.Sound.{all-below}
-use Rattle.store.proofs.Tests.{both-pass, each-passes, all-below-says, all-below-from, all-zero-says, all-zero-from}
+use Rattle.store.proofs.Tests.{passes, all-below-says, all-below-from, all-zero-says, all-zero-from}
 use Rattle.terms.proofs.Cases.{by-test, by-lt}
 
 pub record EntryKept (s : List ℕ) (i : ℕ) : Type 0 where
@@ -51,16 +51,13 @@ accepted-says TooShort e = absurd (false≢true e)
 
 same-entry-says : (d e : Entry) → spec.same-entry d e ≡ true → d ≡ e
 same-entry-says d e t =
-    let p = each-passes (eqb (d .question) (e .question)) (eqb (d .yes-to) (e .yes-to) ∷ eqb (d .no-to) (e .no-to) ∷ []) t in
-    let q : d .question ≡ e .question = eqb-true _ _ (p .0) in
-    let y : d .yes-to ≡ e .yes-to = eqb-true _ _ (p .1 .0) in
-    let n : d .no-to ≡ e .no-to = eqb-true _ _ (p .1 .1) in
+    let q : d .question ≡ e .question = eqb-true _ _ (passes (eqb (d .question) (e .question)) (λ f. rw f at t)) in
+    let y : d .yes-to ≡ e .yes-to = eqb-true _ _ (passes (eqb (d .yes-to) (e .yes-to)) (λ f. simp (f, and-false) at t)) in
+    let n : d .no-to ≡ e .no-to = eqb-true _ _ (passes (eqb (d .no-to) (e .no-to)) (λ f. simp (f, and-false) at t)) in
     λ i. record { question = q i; yes-to = y i; no-to = n i }
 
 same-entry-from : (d e : Entry) → d ≡ e → spec.same-entry d e ≡ true
-same-entry-from d e p =
-    both-pass (both-pass (eq-eqb (d .question) (e .question) (ap (λ x. x .question) p)) (eq-eqb (d .yes-to) (e .yes-to) (ap (λ x. x .yes-to) p)))
-    (eq-eqb (d .no-to) (e .no-to) (ap (λ x. x .no-to) p))
+same-entry-from d e p = simp (eq-eqb _ _ (ap (λ x. x .question) p), eq-eqb _ _ (ap (λ x. x .yes-to) p), eq-eqb _ _ (ap (λ x. x .no-to) p))
 
 module _ (s : List ℕ) where
   asks-before-says : (e : Entry) (h : ℕ) → spec.asks-before s e h ≡ true → leaves ≤ h → e .question < entry s (h - leaves) .question
@@ -73,30 +70,29 @@ module _ (s : List ℕ) where
   unfolding spec.entry-sound
   entry-says i t =
       let e = entry s i in
-      let p = each-passes (leb 1 (e .question)) (leb (e .question) (question-count s)
-      ∷ ltb (e .yes-to) (i + leaves) ∷ ltb (e .no-to) (i + leaves) ∷ not (eqb (e .yes-to) (e .no-to))
-      ∷ spec.asks-before s e (e .yes-to) ∷ spec.asks-before s e (e .no-to) ∷ []) t in
       record {
-        asks-some = leb-true _ _ (p .0);
-        asks-listed = leb-true _ _ (p .1 .0);
-        yes-below = ltb-true _ _ (p .1 .1 .0);
-        no-below = ltb-true _ _ (p .1 .1 .1 .0);
-        differ = eqb-false _ _ (not-true _ (p .1 .1 .1 .1 .0));
-        yes-later = asks-before-says e (e .yes-to) (p .1 .1 .1 .1 .1 .0);
-        no-later = asks-before-says e (e .no-to) (p .1 .1 .1 .1 .1 .1);
+        asks-some = leb-true _ _ (passes (leb 1 (e .question)) (λ f. rw f at t));
+        asks-listed = leb-true _ _ (passes (leb (e .question) (question-count s)) (λ f. simp (f, and-false) at t));
+        yes-below = ltb-true _ _ (passes (ltb (e .yes-to) (i + leaves)) (λ f. simp (f, and-false) at t));
+        no-below = ltb-true _ _ (passes (ltb (e .no-to) (i + leaves)) (λ f. simp (f, and-false) at t));
+        differ = λ d. false≢true (simp (eq-eqb (e .yes-to) (e .no-to) d, and-false) at t);
+        yes-later = asks-before-says e (e .yes-to) (passes (spec.asks-before s e (e .yes-to)) (λ f. simp (f, and-false) at t));
+        no-later = asks-before-says e (e .no-to) (passes (spec.asks-before s e (e .no-to)) (λ f. simp (f, and-false) at t));
       }
 
   entry-from : (i : ℕ) → EntryKept s i → spec.entry-sound s i ≡ true
   unfolding spec.entry-sound
   entry-from i k =
       let e = entry s i in
-      both-pass (both-pass (both-pass (both-pass (both-pass (both-pass (le-leb 1 (e .question) (k .asks-some))
-      (le-leb (e .question) (question-count s) (k .asks-listed)))
-      (lt-ltb (e .yes-to) (i + leaves) (k .yes-below)))
-      (lt-ltb (e .no-to) (i + leaves) (k .no-below)))
-      (ap not (ne-eqb (e .yes-to) (e .no-to) (k .differ))))
-      (asks-before-from e (e .yes-to) (k .yes-later)))
-      (asks-before-from e (e .no-to) (k .no-later))
+      simp (
+        le-leb 1 (e .question) (k .asks-some),
+        le-leb (e .question) (question-count s) (k .asks-listed),
+        lt-ltb (e .yes-to) (i + leaves) (k .yes-below),
+        lt-ltb (e .no-to) (i + leaves) (k .no-below),
+        ne-eqb (e .yes-to) (e .no-to) (k .differ),
+        asks-before-from e (e .yes-to) (k .yes-later),
+        asks-before-from e (e .no-to) (k .no-later),
+      )
 
   -- "no two entries are equal"
   abbrev unlike : ℕ → ℕ → Bool
@@ -128,31 +124,31 @@ module _ (limits : Limits) (s : List ℕ) where
   sound-says t =
       let unused = entries-start s + 3 * used s in
       let list = list-fault (terms-within limits (field-count s)) (list-words s) (question-count s) 0 in
-      let p = each-passes (leb (field-count s) (limits .terms .field .0)) (leb (question-count s) (limits .questions)
-      ∷ leb (entries-start s) (length s) ∷ spec.is-accepted list ∷ leb (used s) (room limits s) ∷ all-below (used s) (spec.entry-sound s)
-      ∷ spec.entries-differ s ∷ spec.all-zero (drop unused s) ∷ []) t in
+      let entries : all-below (used s) (spec.entry-sound s) ≡ true =
+      passes (all-below (used s) (spec.entry-sound s)) (λ f. simp (f, and-false) at t) in
       record {
-        fields-in = leb-true _ _ (p .0);
-        questions-in = leb-true _ _ (p .1 .0);
-        list-in = leb-true _ _ (p .1 .1 .0);
-        list-kept = accepted-says list (p .1 .1 .1 .0);
-        used-in = leb-true _ _ (p .1 .1 .1 .1 .0);
-        entry-kept = λ i h. entry-says s i (all-below-says (spec.entry-sound s) (used s) (p .1 .1 .1 .1 .1 .0) i h);
-        entries-differ = differ-says s (p .1 .1 .1 .1 .1 .1 .0);
-        unused-zero = zero-says s unused (p .1 .1 .1 .1 .1 .1 .1);
+        fields-in = leb-true _ _ (passes (leb (field-count s) (limits .terms .field .0)) (λ f. rw f at t));
+        questions-in = leb-true _ _ (passes (leb (question-count s) (limits .questions)) (λ f. simp (f, and-false) at t));
+        list-in = leb-true _ _ (passes (leb (entries-start s) (length s)) (λ f. simp (f, and-false) at t));
+        list-kept = accepted-says list (passes (spec.is-accepted list) (λ f. simp (f, and-false) at t));
+        used-in = leb-true _ _ (passes (leb (used s) (room limits s)) (λ f. simp (f, and-false) at t));
+        entry-kept = λ i h. entry-says s i (all-below-says (spec.entry-sound s) (used s) entries i h);
+        entries-differ = differ-says s (passes (spec.entries-differ s) (λ f. simp (f, and-false) at t));
+        unused-zero = zero-says s unused (passes (spec.all-zero (drop unused s)) (λ f. simp (f, and-false) at t));
       }
 
   pub sound-from : Sound limits s → spec.sound limits s ≡ true
   unfolding spec.sound spec.heading-sound
-  sound-from k =
-      both-pass (both-pass (both-pass (both-pass (both-pass (both-pass (both-pass (le-leb (field-count s) (limits .terms .field .0) (k .fields-in))
-      (le-leb (question-count s) (limits .questions) (k .questions-in)))
-      (le-leb (entries-start s) (length s) (k .list-in)))
-      (ap spec.is-accepted (k .list-kept)))
-      (le-leb (used s) (room limits s) (k .used-in)))
-      (all-below-from (spec.entry-sound s) (used s) (λ i h. entry-from s i (k .entry-kept i h))))
-      (differ-from s (k .entries-differ)))
-      (zero-from s (entries-start s + 3 * used s) (k .unused-zero))
+  sound-from k = simp (
+    le-leb (field-count s) (limits .terms .field .0) (k .fields-in),
+    le-leb (question-count s) (limits .questions) (k .questions-in),
+    le-leb (entries-start s) (length s) (k .list-in),
+    k .list-kept,
+    le-leb (used s) (room limits s) (k .used-in),
+    all-below-from (spec.entry-sound s) (used s) (λ i h. entry-from s i (k .entry-kept i h)),
+    differ-from s (k .entries-differ),
+    zero-from s (entries-start s + 3 * used s) (k .unused-zero),
+  )
 
 module _ {limits : Limits} {s : List ℕ} (k : Sound limits s) where
   -- "used is at most room"

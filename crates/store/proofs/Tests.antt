@@ -19,29 +19,13 @@ second-passes : (a b : Bool) → (a && b) ≡ true → b ≡ true
 second-passes true b e = e
 second-passes false b e = absurd (false≢true e)
 
-pub both-pass : {a b : Bool} → a ≡ true → b ≡ true → (a && b) ≡ true
+both-pass : {a b : Bool} → a ≡ true → b ≡ true → (a && b) ≡ true
 both-pass p q = simp (p, q)
 
--- the tests of a list after a first one, joined as `a && b && c && d` is
-abbrev pub together : Bool → List Bool → Bool
-together a [] = a
-together a (b ∷ ts) = together (a && b) ts
-
-abbrev pub Each : Bool → List Bool → Type 0
-Each a [] = a ≡ true
-Each a (b ∷ ts) = (a ≡ true) × Each b ts
-
-start-passes : (a : Bool) (ts : List Bool) → together a ts ≡ true → a ≡ true
-start-passes a [] e = e
-start-passes a (b ∷ ts) e = first-passes a b (start-passes (a && b) ts e)
-
-rest-passes : (a b : Bool) (ts : List Bool) → together (a && b) ts ≡ true → together b ts ≡ true
-rest-passes true b ts e = e
-rest-passes false b ts e = absurd (false≢true (start-passes false ts e))
-
-pub each-passes : (a : Bool) (ts : List Bool) → together a ts ≡ true → Each a ts
-each-passes a [] e = e
-each-passes a (b ∷ ts) e = (start-passes a (b ∷ ts) e, each-passes b ts (rest-passes a b ts e))
+-- a test passes if, where it fails, so do all that it is joined with
+pub passes : (t : Bool) → (t ≡ false → false ≡ true) → t ≡ true
+passes true f = refl
+passes false f = f refl
 
 module _ (p : ℕ → Bool) where
   pub all-below-says : (k : ℕ) → all-below k p ≡ true → (i : ℕ) → i < k → p i ≡ true
