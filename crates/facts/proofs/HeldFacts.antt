@@ -176,7 +176,10 @@ module _ {most-no most : ℕ} {f : Facts} (h : Holds most-no most f) where
 -- no facts
 pub holds-none : (most : ℕ) {f : Facts} → state f ≡ start → Holds 0 most f
 holds-none most {f} e = record {
-  facts = []; small = tt; is = e; fitted = ap free e;
+  facts = [];
+  small = tt;
+  is = e;
+  fitted = ap free e;
   few =
       let n : f .noes ≡ 0 = sym (noes-length (f .left) (f .right) (f .noes)) ∙ ap (λ (s : State). length (s .noes)) e in
       omega arith;

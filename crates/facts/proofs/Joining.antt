@@ -41,10 +41,16 @@ module _ (g : Facts) (into from by : ℕ) where
 
   pub joining-none : length (g .class) ≡ 17 → length (g .offset) ≡ 17 → Joining 0 g
   joining-none l o = record {
-    class-done = λ k h. absurd (omega arith); offset-done = λ k h. absurd (omega arith);
-    class-left = λ k h. refl; offset-left = λ k h. refl;
-    class-size = l; offset-size = o;
-    left-same = refl; right-same = refl; noes-same = refl; up-to = omega arith;
+    class-done = λ k h. absurd (omega arith);
+    offset-done = λ k h. absurd (omega arith);
+    class-left = λ k h. refl;
+    offset-left = λ k h. refl;
+    class-size = l;
+    offset-size = o;
+    left-same = refl;
+    right-same = refl;
+    noes-same = refl;
+    up-to = omega arith;
   }
 
   pub joining-raise : {i : ℕ} {f : Facts} → Joining i f → i < 17 → ((k : ℕ) → k ≤ last-field → getD (g .offset) k 0 + by < 2 ^ 32) → CanRaise f i by
@@ -73,7 +79,10 @@ module _ (g : Facts) (into from by : ℕ) where
       offset-left = λ k l. getD-set-other (f .offset) i k (getD (f .offset) i 0 + by) 0 (omega arith) ∙ j .offset-left k (omega arith);
       class-size = simp length-set (j .class-size);
       offset-size = simp length-set (j .offset-size);
-      left-same = j .left-same; right-same = j .right-same; noes-same = j .noes-same; up-to = omega arith;
+      left-same = j .left-same;
+      right-same = j .right-same;
+      noes-same = j .noes-same;
+      up-to = omega arith;
     }
 
     stayed : getD (g .class) i i ≢ from → Joining (i + 1) f
@@ -82,8 +91,12 @@ module _ (g : Facts) (into from by : ℕ) where
       offset-done = below (λ k. getD (f .offset) k 0 ≡ new-offset k) (j .offset-left i (omega arith) ∙ rw (ne-eqb (getD (g .class) i i) from n) refl) (j .offset-done);
       class-left = λ k l. j .class-left k (omega arith);
       offset-left = λ k l. j .offset-left k (omega arith);
-      class-size = j .class-size; offset-size = j .offset-size;
-      left-same = j .left-same; right-same = j .right-same; noes-same = j .noes-same; up-to = omega arith;
+      class-size = j .class-size;
+      offset-size = j .offset-size;
+      left-same = j .left-same;
+      right-same = j .right-same;
+      noes-same = j .noes-same;
+      up-to = omega arith;
     }
 
     pub joining-next : {r : Facts} → r ≡ field-joined f i into from by → Joining (i + 1) r

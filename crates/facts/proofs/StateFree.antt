@@ -67,7 +67,7 @@ spread-false c m z q h g = settled-cases (λ t. t ≡ false → truth (spread c 
     (λ n _. by-test (λ t. t ≡ false) (truth (spread c m) q)
     (λ i. let e = on-bases (spread-classed c m z) q i in
     let s : c .class (q .left .field .0) ≡ c .class (q .right .field .0) =
-        same-class (c .class (q .left .field .0)) (c .class (q .right .field .0)) (left-side c q) (right-side c q) m h g e in
+    same-class (c .class (q .left .field .0)) (c .class (q .right .field .0)) (left-side c q) (right-side c q) m h g e in
     absurd (n s (omega (arith, ap (λ x. x * m) s))))
     (λ _. refl))
 

@@ -32,7 +32,11 @@ pub fn plan_yes(p: u32, t: u32, a: u32, c: u32) -> Plan
     if p == 0 {
         return Plan::Clash;
     }
-    Plan::Join { into: t, from: p, by: c - a }
+    Plan::Join {
+        into: t,
+        from: p,
+        by: c - a,
+    }
 }
 
 // The same where p and t differ and c is at most a.
@@ -42,9 +46,17 @@ fn down(p: u32, t: u32, a: u32, c: u32) -> Plan
 {
     if t == 0 {
         if a == c {
-            return Plan::Join { into: 0, from: p, by: 0 };
+            return Plan::Join {
+                into: 0,
+                from: p,
+                by: 0,
+            };
         }
         return Plan::Clash;
     }
-    Plan::Join { into: p, from: t, by: a - c }
+    Plan::Join {
+        into: p,
+        from: t,
+        by: a - c,
+    }
 }

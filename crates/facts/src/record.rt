@@ -8,6 +8,7 @@ use terms::Field;
 
 // The fields that a record has room for, field 0 among them, and the questions answered no.
 pub const FIELDS: usize = 17;
+
 pub const NOES: usize = 20;
 
 // Each field's class and its offset from the base of the class, and the questions answered no, the first `noes` of the two lists of

@@ -109,11 +109,20 @@ pub fn yes(f: Facts, q: Equation) -> Worked
     let p = class_of(f, q.left.field);
     let t = class_of(f, q.right.field);
     match plan_yes(p, t, side(f, q.left), side(f, q.right)) {
-        Plan::Keep => Worked { free: true, facts: f },
-        Plan::Clash => Worked { free: false, facts: f },
+        Plan::Keep => Worked {
+            free: true,
+            facts: f,
+        },
+        Plan::Clash => Worked {
+            free: false,
+            facts: f,
+        },
         Plan::Join { into, from, by } => {
             let g = join(f, into, from, by);
-            Worked { free: none_settled(g), facts: g }
+            Worked {
+                free: none_settled(g),
+                facts: g,
+            }
         }
     }
 }
@@ -137,12 +146,21 @@ pub fn ask(f: Facts, q: Equation) -> Asked
     ensures { λ r. ⌜ spec.AskedOf f q r ⌝ }
 {
     if is_settled(f, q) {
-        return Asked { decision: Decision::Always, yes: f };
+        return Asked {
+            decision: Decision::Always,
+            yes: f,
+        };
     }
     let w = yes(f, q);
     let g = w.facts;
     if w.free {
-        return Asked { decision: Decision::Open, yes: g };
+        return Asked {
+            decision: Decision::Open,
+            yes: g,
+        };
     }
-    Asked { decision: Decision::Never, yes: g }
+    Asked {
+        decision: Decision::Never,
+        yes: g,
+    }
 }

@@ -1,0 +1,4 @@
+// Reading a sheet against a handle.
+mod reading;
+
+pub use reading::Read;
