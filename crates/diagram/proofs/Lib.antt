@@ -1,0 +1,5 @@
+pub mod Trees
+pub mod FinishTree
+pub mod FinishTruth
+pub mod FinishOnly
+pub mod FinishPaths

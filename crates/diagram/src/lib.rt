@@ -1,0 +1,1 @@
+// The finished diagram of a meaning, and adding it to a store.
