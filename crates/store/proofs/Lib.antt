@@ -1,0 +1,5 @@
+pub mod OpenAccepts
+pub mod OpenedWords
+pub mod OpenSound
+pub mod OpenWays
+pub mod WriteLaws
