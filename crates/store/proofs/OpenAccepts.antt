@@ -1,6 +1,7 @@
 -- What an accepted opening says: no test of the definition refused.
 use Prim.Native.Nat.{ℕ, _+_, _*_, _/_, _%_, _≤_, _<_, _^_}
 use mathlib.Core.Path.{_≡_, refl, ap, _∙_, sym}
+use mathlib.Core.Logic.{_≢_}
 use mathlib.Core.Bool.{true, false, cond}
 use mathlib.Core.List.{List}
 use native.Mathlib.Omega.{arith}
@@ -38,22 +39,26 @@ both NotSimplified g e = absurd (no refl e)
 both NotAbove g e = absurd (no refl e)
 both TooShort g e = absurd (no refl e)
 
-module _ (limits : Limits) (n : ℕ) (list : List ℕ) (words : ℕ) where
-  pub accepts : opening limits n list words ≡ Accepted → Accepts limits n list words
-  unfolding opening
-  accepts =
-      let room : Opened = cond (ltb words (heading-length + length list)) TooShort Accepted in
-      let rest : Opened = and-then (list-fault (terms-within limits n) list (length list / 2) 0) room in
-      let counted : Opened = cond (ltb (limits .questions) (length list / 2)) TooManyQuestions rest in
-      by-lt (λ t. cond t TooManyFields (cond (eqb (length list % 2) 1) OddList counted) ≡ Accepted → Accepts limits n list words) (limits .terms .field .0) n
-      (λ _ e. absurd (no refl e))
-      (λ a. by-eq (λ t. cond t OddList counted ≡ Accepted → Accepts limits n list words) (length list % 2) 1 (λ _ e. absurd (no refl e))
-      (λ b. by-lt (λ t. cond t TooManyQuestions rest ≡ Accepted → Accepts limits n list words) (limits .questions) (length list / 2) (λ _ e. absurd (no refl e))
-      (λ c e.
-      let g = both (list-fault (terms-within limits n) list (length list / 2) 0) room e in
-      by-lt (λ t. cond t TooShort Accepted ≡ Accepted → Accepts limits n list words) words (heading-length + length list) (λ _ e. absurd (no refl e))
-      (λ d _. record { fields = a; even = omega arith; few = c; faultless = g .0; fits = d })
-      (g .1))))
+-- a test that would refuse did not pass
+module _ (x y : ℕ) (a b : Opened) (r : is-accepted a ≡ false) where
+  past-lt : cond (ltb x y) a b ≡ Accepted → (y ≤ x) × (b ≡ Accepted)
+  past-lt = by-lt (λ t. cond t a b ≡ Accepted → (y ≤ x) × (b ≡ Accepted)) x y (λ _ e. absurd (no r e)) (λ h e. (h, e))
+
+  past-eq : cond (eqb x y) a b ≡ Accepted → (x ≢ y) × (b ≡ Accepted)
+  past-eq = by-eq (λ t. cond t a b ≡ Accepted → (x ≢ y) × (b ≡ Accepted)) x y (λ _ e. absurd (no r e)) (λ h e. (h, e))
+
+halves : (m : ℕ) → m % 2 ≢ 1 → 2 * (m / 2) ≡ m
+halves m h = omega arith
+
+pub accepts : (limits : Limits) (n : ℕ) (list : List ℕ) (words : ℕ) → opening limits n list words ≡ Accepted → Accepts limits n list words
+unfolding opening
+accepts limits n list words e =
+    let fields = past-lt _ _ TooManyFields _ refl e in
+    let even = past-eq _ _ OddList _ refl (fields .1) in
+    let few = past-lt _ _ TooManyQuestions _ refl (even .1) in
+    let parts = both _ _ (few .1) in
+    let fits = past-lt _ _ TooShort _ refl (parts .1) in
+    record { fields = fields .0; even = halves (length list) (even .0); few = few .0; faultless = parts .0; fits = fits .0 }
 
 -- an accepted opening has room for what is written, and its number of questions fits a word
 module _ (limits : Limits) (n : ℕ) (list : List ℕ) (words : ℕ) {o : Opened} (e : o ≡ opening limits n list words) (a : o ≡ Accepted) where

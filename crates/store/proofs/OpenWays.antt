@@ -33,7 +33,9 @@ module _ (words : List ℕ) (k : ℕ) where
 pub above-other : (words : List ℕ) (k : ℕ) {p q : Equation} {b : Bool} → k ≢ 0 → p ≡ question-in words (k - 1) → q ≡ question-in words k
     → b ≡ before fields-first p q → b ≡ above-last words k
 above-other words zero n ep eq eb = absurd (n refl)
-above-other words (suc k) n ep eq eb = eb ∙ (λ i. before fields-first (ep i) (eq i)) ∙ ap (λ (j : ℕ). before fields-first (question-in words j) (question-in words (suc k))) (omega arith)
+above-other words (suc k) n ep eq eb =
+    let last : suc k - 1 ≡ k = omega arith in
+    eb ∙ (λ i. before fields-first ((ep ∙ ap (question-in words) last) i) (eq i))
 
 -- ---- the rules of a question
 abbrev fault-of : TermLimits → Bool → Equation → Opened
@@ -45,23 +47,22 @@ module _ (limits : TermLimits) (words : List ℕ) (k : ℕ) {q : Equation} (eq :
   unfolding question-fault
   of-question = ap (fault-of limits (above-last words k)) eq
 
-  module _ {a : Bool} (ea : a ≡ allows limits (q .left)) where
-    pub left-out : a ≡ false → OutOfLimits ≡ question-fault limits words k
-    left-out e = rw (← of-question, ← ea, e)
+  pub left-out : {a : Bool} → a ≡ allows limits (q .left) → a ≡ false → OutOfLimits ≡ question-fault limits words k
+  left-out ea e = rw (← of-question, ← ea, e)
 
-    pub right-out : {b : Bool} → b ≡ allows limits (q .right) → b ≡ false → OutOfLimits ≡ question-fault limits words k
-    right-out eb e = rw (← of-question, ← eb, e, and-false)
+  pub right-out : {b : Bool} → b ≡ allows limits (q .right) → b ≡ false → OutOfLimits ≡ question-fault limits words k
+  right-out eb e = rw (← of-question, ← eb, e, and-false)
 
-    module _ (ta : a ≡ true) {b : Bool} (eb : b ≡ allows limits (q .right)) (tb : b ≡ true) {s : Bool} (es : s ≡ is-simplified q) where
-      pub not-simplified : s ≡ false → NotSimplified ≡ question-fault limits words k
-      not-simplified e = rw (← of-question, ← ea, ta, ← eb, tb, ← es, e)
+  module _ {a b s : Bool} (ea : a ≡ allows limits (q .left)) (ta : a ≡ true) (eb : b ≡ allows limits (q .right)) (tb : b ≡ true) (es : s ≡ is-simplified q) where
+    pub not-simplified : s ≡ false → NotSimplified ≡ question-fault limits words k
+    not-simplified e = rw (← of-question, ← ea, ta, ← eb, tb, ← es, e)
 
-      module _ (ts : s ≡ true) {o : Bool} (eo : o ≡ above-last words k) where
-        pub not-above : o ≡ false → NotAbove ≡ question-fault limits words k
-        not-above e = rw (← of-question, ← ea, ta, ← eb, tb, ← es, ts, ← eo, e)
+    module _ (ts : s ≡ true) {o : Bool} (eo : o ≡ above-last words k) where
+      pub not-above : o ≡ false → NotAbove ≡ question-fault limits words k
+      not-above e = rw (← of-question, ← ea, ta, ← eb, tb, ← es, ts, ← eo, e)
 
-        pub faultless : o ≡ true → Accepted ≡ question-fault limits words k
-        faultless e = rw (← of-question, ← ea, ta, ← eb, tb, ← es, ts, ← eo, e)
+      pub faultless : o ≡ true → Accepted ≡ question-fault limits words k
+      faultless e = rw (← of-question, ← ea, ta, ← eb, tb, ← es, ts, ← eo, e)
 
 -- ---- the list
 -- the numbers of the refusals among the cases of an answer
@@ -121,7 +122,8 @@ module _ (limits : Limits) (n : ℕ) (list : List ℕ) (words : ℕ) where
       unfolding opening
       too-many-questions h = simp (le-ltb _ _ few, ne-eqb _ _ even, lt-ltb _ _ h)
 
-      module _ (short : length list / 2 ≤ limits .questions) {t : TermLimits} {f : Opened} (et : t ≡ terms-within limits n) (ef : f ≡ list-fault t list (length list / 2) 0) where
+      module _ (short : length list / 2 ≤ limits .questions) {t : TermLimits} {f : Opened}
+          (et : t ≡ terms-within limits n) (ef : f ≡ list-fault t list (length list / 2) 0) where
         then-room : and-then f (cond (ltb words (heading-length + length list)) TooShort Accepted) ≡ opening limits n list words
         unfolding opening
         then-room = simp (le-ltb _ _ few, ne-eqb _ _ even, le-ltb _ _ short, ef, et)
@@ -156,5 +158,6 @@ module _ (limits : Limits) (n : ℕ) (list s : List ℕ) {o : Opened} (e : o ≡
   unfolding open-store
   opens a w = ap (outcome Accepted) w ∙ ap (λ (b : Opened). opened b n list s) (sym a ∙ e)
 
-pub opens-at : (n : ℕ) (list s : List ℕ) {limits l : Limits} {t : List ℕ} {o : Opened} → l ≡ limits → outcome o t ≡ open-store l n list s → outcome o t ≡ open-store limits n list s
+pub opens-at : (n : ℕ) (list s : List ℕ) {limits l : Limits} {t : List ℕ} {o : Opened} → l ≡ limits
+    → outcome o t ≡ open-store l n list s → outcome o t ≡ open-store limits n list s
 opens-at n list s e p = rw e at p

@@ -1,4 +1,4 @@
--- The parts of a store that was just opened: they are read off its words, of which the list is as long as its two words for each question.
+-- The parts of a store that was just opened are read off its words; two words for each question are the whole of an even list.
 use Prim.Native.Nat.{ℕ, zero, suc, _+_, _-_, _*_, _/_, _≤_}
 use mathlib.Core.Path.{_≡_, refl, ap, _∙_}
 use mathlib.Core.Bool.{true}
@@ -30,18 +30,15 @@ module _ (n : ℕ) (list : List ℕ) (words : ℕ) where
 
   pub opened-length : heading-length + length list ≤ words → length (opened-words n list words) ≡ words
   unfolding opened-words
-  opened-length h =
-      let rest : ℕ = words - (heading-length + length list) in
-      omega (arith, length-append list (replicate rest 0), length-replicate {A = ℕ} rest 0)
+  opened-length h = simp (length-append, length-replicate) (omega arith)
 
   module _ (even : 2 * (length list / 2) ≡ length list) where
     pub opened-list : list-words (opened-words n list words) ≡ list
     unfolding opened-words
-    opened-list = take-at list (replicate (words - (heading-length + length list)) 0) (2 * (length list / 2)) (omega arith)
+    opened-list = take-at list _ (2 * (length list / 2)) (omega arith)
 
     pub opened-rest : all-zero (drop (entries-start (opened-words n list words)) (opened-words n list words)) ≡ true
     unfolding opened-words
     opened-rest =
-        let rest : ℕ = words - (heading-length + length list) in
-        let past = drop-at (n ∷ length list / 2 ∷ 0 ∷ list) (replicate rest 0) (heading-length + 2 * (length list / 2)) (omega arith) in
-        ap all-zero past ∙ zeros-zero rest
+        let past = drop-at (n ∷ length list / 2 ∷ 0 ∷ list) _ (heading-length + 2 * (length list / 2)) (omega arith) in
+        ap all-zero past ∙ zeros-zero (words - (heading-length + length list))

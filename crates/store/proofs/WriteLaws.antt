@@ -1,4 +1,4 @@
--- What a store's words are while the heading, the list and the zeros are written, one word a turn.
+-- While the heading, the list and the zeros are written, each turn puts the next word of the opened store in its place.
 use Prim.Native.Nat.{ℕ, _+_, _-_, _/_, _≤_, _<_}
 use mathlib.Core.Path.{_≡_, refl, ap, _∙_, sym}
 use mathlib.Core.List.{List, [], _∷_, _++_, append-nil}

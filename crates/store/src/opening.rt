@@ -3,7 +3,7 @@ ghost use mathlib.Core.Path.{_≡_};
 ghost use mathlib.Core.List.{_∷_, _++_};
 ghost use Prim.Native.Nat.{_+_, _-_, _*_, _/_, _<_, _≤_, _^_};
 ghost use lib.ListN.{length, take, drop, replicate};
-ghost use Rattle.store.specs.Layout as layout;
+ghost use Rattle.store.specs.Layout.{heading-length, question-in};
 ghost use Rattle.store.specs.Limits as bounds;
 ghost use Rattle.store.specs.Open as spec;
 ghost use Rattle.store.specs.Outcome.{outcome};
@@ -35,7 +35,7 @@ const HEADING_LENGTH: usize = 3;
 // The k-th question of a list of term words, counted from 0.
 fn question_in(list: &[u32], k: usize) -> Equation
     requires { ⌜ 2 * k + 2 ≤ length (now list) ⌝ }
-    ensures { λ r. ⌜ r ≡ layout.question-in (now (list .entry)) k ⌝ }
+    ensures { λ r. ⌜ r ≡ question-in (now (list .entry)) k ⌝ }
 {
     Equation {
         left: term_of(list[2 * k]),
@@ -114,8 +114,8 @@ fn first_fault(limits: Limits, n: u32, list: &[u32], words: usize) -> Opened
 
 // Writes the number of fields, the number of questions, and that no entries are used.
 fn write_heading(n: u32, questions: u32, store: &mut [u32])
-    requires { ⌜ layout.heading-length ≤ length (now store) ⌝ }
-    ensures { λ _. ⌜ now (store .exit) ≡ n ∷ questions ∷ 0 ∷ drop layout.heading-length (now (store .entry)) ⌝ }
+    requires { ⌜ heading-length ≤ length (now store) ⌝ }
+    ensures { λ _. ⌜ now (store .exit) ≡ n ∷ questions ∷ 0 ∷ drop heading-length (now (store .entry)) ⌝ }
 {
     store[0] = n;
     store[1] = questions;
@@ -124,8 +124,9 @@ fn write_heading(n: u32, questions: u32, store: &mut [u32])
 
 // Writes the list behind the heading.
 fn write_list(list: &[u32], store: &mut [u32])
-    requires { ⌜ layout.heading-length + length (now list) ≤ length (now store) ⌝ }
-    ensures { λ _. ⌜ now (store .exit) ≡ take layout.heading-length (now (store .entry)) ++ now (list .entry) ++ drop (layout.heading-length + length (now (list .entry))) (now (store .entry)) ⌝ }
+    requires { ⌜ heading-length + length (now list) ≤ length (now store) ⌝ }
+    ensures { λ _. ⌜ now (store .exit)
+        ≡ take heading-length (now (store .entry)) ++ now (list .entry) ++ drop (heading-length + length (now (list .entry))) (now (store .entry)) ⌝ }
 {
     let mut i: usize = 0;
     while i < list.len() {
@@ -148,7 +149,7 @@ fn clear_from(start: usize, store: &mut [u32])
 
 // Writes a store with no entries.
 fn write_opened(n: u32, list: &[u32], store: &mut [u32])
-    requires { ⌜ layout.heading-length + length (now list) ≤ length (now store) ⌝ }
+    requires { ⌜ heading-length + length (now list) ≤ length (now store) ⌝ }
     requires { ⌜ length (now list) / 2 < 2 ^ 32 ⌝ }
     ensures { λ _. ⌜ now (store .exit) ≡ spec.opened-words n (now (list .entry)) (length (now (store .entry))) ⌝ }
 {
