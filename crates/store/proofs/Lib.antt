@@ -4,3 +4,8 @@ pub mod Handles
 pub mod SoundTree
 pub mod TreePaths
 pub mod StoreWords
+pub mod OpenAccepts
+pub mod OpenedWords
+pub mod OpenSound
+pub mod OpenWays
+pub mod WriteLaws
