@@ -1,16 +1,15 @@
 -- The finished diagram asks its questions in order and never twice, and the two parts of every entry differ: each question's number is above
 -- those before it, and equal parts are one.
-use Prim.Native.Nat.{ℕ, suc, _+_, _≤_, _<_}
-use mathlib.Core.Path.{_≡_, refl, sym, ap, _∙_, subst}
+use Prim.Native.Nat.{ℕ, suc, _+_, _≤_}
+use mathlib.Core.Path.{_≡_, refl}
 use mathlib.Core.Bool.{Bool}
 use mathlib.Core.List.{List, [], _∷_}
 use native.Mathlib.Omega.{arith}
-use native.Mathlib.Numerals.{add-one}
 use lib.ListN.{length}
 use Rattle.facts.specs.declared.decision.Decision.{Decision}
 use Rattle.facts.specs.declared.decision.Decision.the-variants.{Always, Never, Open}
 use Rattle.facts.specs.State.{State, no-to, yes-to, decide}
-use Rattle.store.specs.Tree.{Tree, leaf, node, Ascending, Reduced}
+use Rattle.store.specs.Tree.{Tree, Ascending, Reduced}
 use Rattle.terms.specs.declared.term.Equation.{Equation}
 use Rattle.terms.specs.Meaning.{Valuation}
 use Rattle.diagram.specs.Finish.{parts, finish}
@@ -35,11 +34,16 @@ finish-ascending [] k most s means h = tt
 finish-ascending (q ∷ qs) k most s means h =
     let later : (r : State) → Ascending (k + 1) most (finish qs (k + 1) r means) = λ r. finish-ascending qs (k + 1) most r means (omega arith) in
     finish-cases (Ascending k most) q qs k s means
-    (λ _. ascending-less (finish qs (k + 1) s means) (omega arith) (later s))
-    (λ _. ascending-less (finish qs (k + 1) s means) (omega arith) (later s))
+    (λ _. ascending-less (k + 1) k most (finish qs (k + 1) s means) (omega arith) (later s))
+    (λ _. ascending-less (k + 1) k most (finish qs (k + 1) s means) (omega arith) (later s))
     (λ _. parts-cases (Ascending k most) k (finish qs (k + 1) (yes-to s q) means) (finish qs (k + 1) (no-to s q) means)
-    (λ _. ascending-less (finish qs (k + 1) (yes-to s q) means) (omega arith) (later (yes-to s q)))
-    (λ _. (omega arith, omega arith, rw (← add-one) (later (yes-to s q)), rw (← add-one) (later (no-to s q)))))
+    (λ _. ascending-less (k + 1) k most (finish qs (k + 1) (yes-to s q) means) (omega arith) (later (yes-to s q)))
+    (λ _. (
+      omega arith,
+      omega arith,
+      ascending-less (k + 1) (suc k) most (finish qs (k + 1) (yes-to s q) means) (omega arith) (later (yes-to s q)),
+      ascending-less (k + 1) (suc k) most (finish qs (k + 1) (no-to s q) means) (omega arith) (later (no-to s q)),
+    )))
 
 pub finish-reduced : (qs : List Equation) (k : ℕ) (s : State) (means : Valuation → Bool) → Reduced (finish qs k s means)
 unfolding finish

@@ -1,15 +1,14 @@
 -- Trees compared, and what a tree's truth rests on: only the questions that stand in it.
-use Prim.Native.Nat.{ℕ, suc, _+_, _≤_, _<_}
-use mathlib.Core.Path.{_≡_, refl, sym, ap, ap₂, _∙_}
+use Prim.Native.Nat.{ℕ, suc, _≤_}
+use mathlib.Core.Path.{_≡_, refl, sym, ap, _∙_}
 use mathlib.Core.Logic.{_≢_}
-use mathlib.Core.Bool.{Bool, true, false, cond, not, _&&_, true≢false, false≢true}
+use mathlib.Core.Bool.{Bool, true, false, cond, _&&_, true≢false, false≢true}
 use native.Mathlib.Omega.{arith}
 use borrow.Author.Tests.{eqb-true, eq-eqb}
 use lib.Dec.{eqb}
-use Rattle.store.specs.Tree.{Tree, leaf, node, tree-truth, Ascending, Reduced}
-use Rattle.store.proofs.Tests.{passes}
-use Rattle.terms.proofs.Cases.{by-test}
+use Rattle.store.specs.Tree.{Tree, leaf, node, tree-truth, Ascending}
 use Rattle.diagram.specs.Finish.{same-truth, same-tree, parts}
+use Rattle.terms.proofs.Cases.{by-test}
 
 -- ---- comparing
 same-truth-says : (a b : Bool) → same-truth a b ≡ true → a ≡ b
@@ -68,6 +67,6 @@ truth-rests answers others least most (leaf b) a e = refl
 truth-rests answers others least most (node k y n) a e =
     rw (e k (a .0), truth-rests answers others (suc k) most y (a .2) (λ j h. e j (omega (arith, a .0))), truth-rests answers others (suc k) most n (a .3) (λ j h. e j (omega (arith, a .0)))) refl
 
-pub ascending-less : {least lower most : ℕ} (t : Tree) → lower ≤ least → Ascending least most t → Ascending lower most t
-ascending-less (leaf b) h a = tt
-ascending-less (node k y n) h a = (omega (arith, a .0), a .1, a .2, a .3)
+pub ascending-less : (least lower most : ℕ) (t : Tree) → lower ≤ least → Ascending least most t → Ascending lower most t
+ascending-less least lower most (leaf b) h a = tt
+ascending-less least lower most (node k y n) h a = (omega (arith, a .0), a .1, a .2, a .3)

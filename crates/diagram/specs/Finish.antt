@@ -1,11 +1,8 @@
 -- The finished diagram as a function that computes: skipping by the decision, and the leaf by the meaning at a choice of counts that fits.
-use Prim.Native.Nat.{ℕ, zero, suc, _+_}
-use mathlib.Core.Path.{_≡_}
+use Prim.Native.Nat.{ℕ, _+_}
 use mathlib.Core.Bool.{Bool, true, false, cond, not, _&&_}
 use mathlib.Core.List.{List, [], _∷_}
 use lib.Dec.{eqb}
-use lib.ListN.{length}
-use Rattle.facts.specs.declared.decision.Decision.{Decision}
 use Rattle.facts.specs.declared.decision.Decision.the-variants.{Always, Never, Open}
 use Rattle.facts.specs.State.{State, no-to, yes-to, start, decide, some-sheet}
 use Rattle.store.specs.Tree.{Tree, leaf, node}

@@ -1,2 +1,3 @@
 pub mod Finished
 pub mod Finish
+pub mod Insert
