@@ -1,0 +1,4 @@
+// The walk that finishes a diagram and adds it to a store.
+mod subject;
+
+pub use subject::Subject;
