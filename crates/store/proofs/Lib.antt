@@ -4,3 +4,4 @@ pub mod Handles
 pub mod SoundTree
 pub mod TreePaths
 pub mod StoreWords
+pub mod SoundList
