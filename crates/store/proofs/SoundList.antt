@@ -48,7 +48,7 @@ module _ (limits : TermLimits) (words : List ℕ) where
   -- what is accepted passes the first test
   pub accepted-allows : (k : ℕ) → question-fault limits words k ≡ Accepted → (allows limits (question-in words k .left) && allows limits (question-in words k .right)) ≡ true
   unfolding question-fault
-  accepted-allows k = 
+  accepted-allows k =
       let q = question-in words k in
       by-test (λ t. cond t (cond (is-simplified q) (cond (above-last words k) Accepted NotAbove) NotSimplified) OutOfLimits ≡ Accepted → t ≡ true)
       (allows limits (q .left) && allows limits (q .right)) (λ _ _. refl) (λ _ e. absurd (let z : _≡_ {A = ℕ} 0 1 = cc in omega arith))
