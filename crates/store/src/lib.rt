@@ -5,3 +5,5 @@ mod opening;
 pub use limits::Limits;
 pub use limits::limits_of_store;
 pub use opening::Opened;
+pub use opening::list_fault;
+pub use opening::question_fault;
