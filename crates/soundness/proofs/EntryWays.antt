@@ -7,7 +7,7 @@ use native.Mathlib.Omega.{arith}
 use borrow.Author.Tests.{lt-ltb, le-ltb, le-leb, lt-leb, ltb-true}
 use lib.Dec.{eqb, leb, ltb}
 use lib.ListN.{getD}
-use Rattle.store.specs.Layout.{question-count, entry}
+use Rattle.store.specs.Layout.{question-count, entry, leaves}
 use Rattle.store.specs.Sound.{asks-before, entry-sound, all-below}
 use Rattle.index.specs.Entries.{Fit}
 use Rattle.index.proofs.Below.{and-both, all-none, all-more, all-false}
@@ -21,17 +21,17 @@ module _ (s : List ℕ) {start : ℕ} (i : ℕ) (f : Fit s start (i + 1)) where
   pub yes-is : {r : ℕ} → r ≡ getD s (start + 3 * i + 1) 0 → r ≡ entry s i .yes-to
   yes-is e = e ∙ ap (λ (t : ℕ). getD s (t + 3 * i + 1) 0) (f .begin)
 
-  pub no-is : {r : ℕ} → r ≡ getD s (start + 3 * i + 2) 0 → r ≡ entry s i .no-to
-  no-is e = e ∙ ap (λ (t : ℕ). getD s (t + 3 * i + 2) 0) (f .begin)
+  pub no-is : {r : ℕ} → r ≡ getD s (start + 3 * i + leaves) 0 → r ≡ entry s i .no-to
+  no-is e = e ∙ ap (λ (t : ℕ). getD s (t + 3 * i + leaves) 0) (f .begin)
 
 -- ---- the entry that a handle names
 module _ (s : List ℕ) (i handle : ℕ) where
-  pub leaf-passes : handle < 2 → true ≡ asks-before s (entry s i) handle
-  leaf-passes h = simp (lt-ltb handle 2 h)
+  pub leaf-passes : handle < leaves → true ≡ asks-before s (entry s i) handle
+  leaf-passes h = simp (lt-ltb handle leaves h)
 
-  pub asks-later : {q d : ℕ} → 2 ≤ handle → q ≡ entry s i .question → d ≡ entry s (handle - 2) .question
+  pub asks-later : {q d : ℕ} → leaves ≤ handle → q ≡ entry s i .question → d ≡ entry s (handle - leaves) .question
       → ltb q d ≡ asks-before s (entry s i) handle
-  asks-later h eq ed = ap₂ ltb eq ed ∙ simp (le-ltb handle 2 h)
+  asks-later h eq ed = ap₂ ltb eq ed ∙ simp (le-ltb handle leaves h)
 
 -- ---- an entry's own numbers
 module _ (s : List ℕ) (i : ℕ) {q : ℕ} (eq : q ≡ entry s i .question) where
@@ -45,24 +45,24 @@ module _ (s : List ℕ) (i : ℕ) {q : ℕ} (eq : q ≡ entry s i .question) whe
     question-high h = simp (lt-leb (entry s i .question) (getD s 1 0) (omega arith), and-false)
 
     module _ (high : q ≤ getD s 1 0) {y : ℕ} (ey : y ≡ entry s i .yes-to) where
-      pub yes-high : i + 2 ≤ y → false ≡ numbers-sound s i
+      pub yes-high : i + leaves ≤ y → false ≡ numbers-sound s i
       unfolding numbers-sound
-      yes-high h = simp (le-ltb (entry s i .yes-to) (i + 2) (omega arith), and-false)
+      yes-high h = simp (le-ltb (entry s i .yes-to) (i + leaves) (omega arith), and-false)
 
-      module _ (hy : y < i + 2) {n : ℕ} (en : n ≡ entry s i .no-to) where
-        pub no-high : i + 2 ≤ n → false ≡ numbers-sound s i
+      module _ (hy : y < i + leaves) {n : ℕ} (en : n ≡ entry s i .no-to) where
+        pub no-high : i + leaves ≤ n → false ≡ numbers-sound s i
         unfolding numbers-sound
-        no-high h = simp (le-ltb (entry s i .no-to) (i + 2) (omega arith), and-false)
+        no-high h = simp (le-ltb (entry s i .no-to) (i + leaves) (omega arith), and-false)
 
-        pub by-difference : n < i + 2 → not (eqb y n) ≡ numbers-sound s i
+        pub by-difference : n < i + leaves → not (eqb y n) ≡ numbers-sound s i
         unfolding numbers-sound
         by-difference h =
             ap₂ (λ (a b : ℕ). not (eqb a b)) ey en
             ∙ simp (
               le-leb 1 (entry s i .question) (omega arith),
               le-leb (entry s i .question) (getD s 1 0) (omega arith),
-              lt-ltb (entry s i .yes-to) (i + 2) (omega arith),
-              lt-ltb (entry s i .no-to) (i + 2) (omega arith),
+              lt-ltb (entry s i .yes-to) (i + leaves) (omega arith),
+              lt-ltb (entry s i .no-to) (i + leaves) (omega arith),
             )
 
 -- ---- an entry
@@ -72,13 +72,13 @@ third-fourth a b c d e t =
     let fourth = and-both (a && b && c) d (fifth .0) in
     (and-both (a && b) c (fourth .0) .1, fourth .1)
 
-handles-low : (s : List ℕ) (i : ℕ) → numbers-sound s i ≡ true → (entry s i .yes-to < i + 2) × (entry s i .no-to < i + 2)
+handles-low : (s : List ℕ) (i : ℕ) → numbers-sound s i ≡ true → (entry s i .yes-to < i + leaves) × (entry s i .no-to < i + leaves)
 unfolding numbers-sound
 handles-low s i t =
     let e = entry s i in
-    let r = third-fourth (leb 1 (e .question)) (leb (e .question) (question-count s)) (ltb (e .yes-to) (i + 2)) (ltb (e .no-to) (i + 2))
+    let r = third-fourth (leb 1 (e .question)) (leb (e .question) (question-count s)) (ltb (e .yes-to) (i + leaves)) (ltb (e .no-to) (i + leaves))
     (not (eqb (e .yes-to) (e .no-to))) t in
-    (ltb-true (e .yes-to) (i + 2) (r .0), ltb-true (e .no-to) (i + 2) (r .1))
+    (ltb-true (e .yes-to) (i + leaves) (r .0), ltb-true (e .no-to) (i + leaves) (r .1))
 
 -- the test of a handle of the i-th entry
 abbrev Asks : List ℕ → ℕ → ℕ → Bool
@@ -93,10 +93,10 @@ module _ (s : List ℕ) (i : ℕ) {b : Bool} (eb : b ≡ numbers-sound s i) wher
   numbers-fail d = let e : numbers-sound s i ≡ false = sym eb ∙ d in simp (entry-parts s i, e)
 
   module _ (t : b ≡ true) where
-    pub yes-low : {y : ℕ} → y ≡ entry s i .yes-to → y < i + 2
+    pub yes-low : {y : ℕ} → y ≡ entry s i .yes-to → y < i + leaves
     yes-low ey = rw ey (handles-low s i (sym eb ∙ t) .0)
 
-    pub no-low : {n : ℕ} → n ≡ entry s i .no-to → n < i + 2
+    pub no-low : {n : ℕ} → n ≡ entry s i .no-to → n < i + leaves
     no-low en = rw en (handles-low s i (sym eb ∙ t) .1)
 
     module _ {y : ℕ} {a : Bool} (ey : y ≡ entry s i .yes-to) (ea : a ≡ asks-before s (entry s i) y) where

@@ -11,7 +11,7 @@ use lib.ListN.{length, getD, take, drop, length-take, length-drop, drop-of-lengt
 use lib.Seq.{drop-cons}
 use Rattle.store.specs.declared.limits.Limits.{Limits}
 use Rattle.store.specs.declared.opening.Opened.{Opened}
-use Rattle.store.specs.Layout.{question-count, list-words, entries-start, room}
+use Rattle.store.specs.Layout.{heading-length, question-count, list-words, entries-start, room}
 use Rattle.store.specs.Limits.{store-limits, terms-within}
 use Rattle.store.specs.Open.{list-fault}
 use Rattle.store.specs.Sound.{all-below, all-zero, is-accepted, heading-sound, entry-sound, entries-differ, sound}
@@ -22,8 +22,12 @@ use Rattle.index.specs.Entries.{Fit, differ-below}
 use Rattle.soundness.specs.Parts.{body-sound}
 
 -- ---- the heading
+-- the words from the heading up to a place
+abbrev pub part : List ℕ → ℕ → List ℕ
+part s end = take (end - heading-length) (drop heading-length s)
+
 module _ (limits : Limits) (s : List ℕ) where
-  pub heading-short : length s < 3 → false ≡ heading-sound limits s
+  pub heading-short : length s < heading-length → false ≡ heading-sound limits s
   unfolding heading-sound
   heading-short h = simp (lt-leb (entries-start s) (length s) (omega arith), and-false)
 
@@ -40,8 +44,8 @@ module _ (limits : Limits) (s : List ℕ) where
     unfolding heading-sound
     list-cut h = simp (lt-leb (entries-start s) (length s) (omega arith), and-false)
 
-    part-is : take (end - 3) (drop 3 s) ≡ list-words s
-    part-is = let e : end - 3 ≡ 2 * question-count s = omega arith in ap (λ (m : ℕ). take m (drop 3 s)) e
+    part-is : part s end ≡ list-words s
+    part-is = let e : end - heading-length ≡ 2 * question-count s = omega arith in ap (λ (m : ℕ). take m (drop heading-length s)) e
 
     part-count : end ≤ length s → length (list-words s) / 2 ≡ question-count s
     part-count h =
@@ -49,7 +53,7 @@ module _ (limits : Limits) (s : List ℕ) where
         omega arith
 
     pub by-list : {f : Opened} {r : Bool} → getD s 0 0 ≤ limits .terms .field .0 → getD s 1 0 ≤ limits .questions → end ≤ length s
-        → f ≡ list-fault (terms-within limits (getD s 0 0)) (take (end - 3) (drop 3 s)) (length (take (end - 3) (drop 3 s)) / 2) 0
+        → f ≡ list-fault (terms-within limits (getD s 0 0)) (part s end) (length (part s end) / 2) 0
         → r ≡ is-accepted f → r ≡ heading-sound limits s
     unfolding heading-sound
     by-list hf hq he ef er =
@@ -83,8 +87,8 @@ module _ (limits : Limits) (s : List ℕ) {start : ℕ} (k : ℕ) (es : start �
 
 -- ---- after the heading
 module _ (limits : Limits) (s : List ℕ) {b : Bool} (eb : b ≡ heading-sound limits s) (t : b ≡ true) where
-  pub heading-three : 3 ≤ length s
-  heading-three = let h = heading-long limits s eb t in omega arith
+  pub heading-whole : heading-length ≤ length s
+  heading-whole = let h = heading-long limits s eb t in omega arith
 
   module _ {start : ℕ} (es : start ≡ entries-start s) where
     pub start-within : start ≤ length s

@@ -45,7 +45,7 @@ fn is_accepted(o: Opened) -> bool
 
 // Where the entries begin.
 fn entries_start(s: &[u32]) -> usize
-    requires { ⌜ 3 ≤ length (now s) ⌝ }
+    requires { ⌜ layout.heading-length ≤ length (now s) ⌝ }
     ensures { λ r. ⌜ r ≡ layout.entries-start (now (s .entry)) ⌝ }
 {
     HEADING + 2 * wide(s[1])

@@ -1,6 +1,6 @@
 -- `is_sound` meets its contract: the heading, then the room and then the rest decide, and each is tested where the one before it holds.
 use borrow.Author.Needs.{needs}
-use Rattle.soundness.proofs.SoundWays.{heading-three, start-within, room-fits, by-body, room-fails, heading-fails}
+use Rattle.soundness.proofs.SoundWays.{heading-whole, start-within, room-fits, by-body, room-fails, heading-fails}
 use Rattle.soundness.proofs.is_sound.Statement.{statement}
 use Rattle.soundness.proofs.is_sound.Tie as tie
 
@@ -8,10 +8,10 @@ heading-sound-requires : tie.Need-heading-sound-requires
 heading-sound-requires c κs = search needs
 
 entries-start-requires : tie.Need-entries-start-requires
-entries-start-requires c κs = search (needs, heading-three)
+entries-start-requires c κs = search (needs, heading-whole)
 
 shared-slice-read-wide : tie.Need-shared-slice-read-wide
-shared-slice-read-wide c = search (needs, heading-three)
+shared-slice-read-wide c = search (needs, heading-whole)
 
 wide-requires : tie.Need-wide-requires
 wide-requires c κs = search needs
