@@ -181,12 +181,12 @@ fn entries_sound(s: &[u32], start: usize, used: usize) -> bool
 fn zero_from(s: &[u32], from: usize) -> bool
     ensures { λ r. ⌜ r ≡ spec.all-zero (drop from (now (s .entry))) ⌝ }
 {
-    let mut i = from;
-    while i < s.len() {
-        if s[i] != 0 {
+    let mut at = from;
+    while at < s.len() {
+        if s[at] != 0 {
             return false;
         }
-        i += 1;
+        at += 1;
     }
     true
 }
