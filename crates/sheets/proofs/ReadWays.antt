@@ -6,7 +6,7 @@ use mathlib.Core.Logic.{_≢_}
 use mathlib.Core.Bool.{Bool, true, false, cond}
 use mathlib.Core.List.{List}
 use native.Mathlib.Omega.{arith}
-use borrow.Author.Tests.{eq-eqb, ne-eqb, le-ltb}
+use borrow.Author.Tests.{eq-eqb, ne-eqb, lt-ltb, le-ltb}
 use lib.Dec.{eqb}
 use lib.ListN.{length, getD}
 use Rattle.terms.specs.declared.term.Equation.{Equation}
@@ -14,11 +14,16 @@ use Rattle.terms.specs.declared.term.Field.{Field}
 use Rattle.terms.specs.declared.term.Term.{Term}
 use Rattle.terms.specs.Meaning.{count, value, truth}
 use Rattle.terms.specs.Words.{equation, term-of}
-use Rattle.store.specs.Layout.{question, entry, leaves, used, HasEntry}
+use Rattle.store.specs.declared.limits.Limits.{Limits}
+use Rattle.store.specs.Sound.{sound}
+use Rattle.index.specs.Capacity.{capacity}
+use Rattle.store.specs.Layout.{field-count, question, entry, leaves, used, HasEntry}
 use Rattle.store.specs.Meaning.{next, meaning}
+use Rattle.sheets.specs.declared.answer.Read.the-variants.{Satisfies, NotSound, NoHandle, WrongLength}
+use Rattle.sheets.specs.Read.{read-sheet}
 use Rattle.sheets.specs.Sheet.{sheet-counts, most-count, Counted, CanAsk, Readable}
 use Rattle.store.proofs.Handles.{leaf-stays, by-handle}
-use Rattle.store.proofs.SoundFacts.{sound-says, used-fits}
+use Rattle.store.proofs.SoundFacts.{Sound, sound-says, used-fits, used-few}
 use Rattle.store.proofs.SoundList.{sound-question}
 use Rattle.store.proofs.SoundTree.{meaning-entry}
 use Rattle.store.proofs.StoreWords.{list-word}
@@ -138,3 +143,40 @@ module _ {s : List ℕ} {h : ℕ} {sheet : List ℕ} (r : Readable s h sheet) wh
         handle-in = omega (arith, way-falls, w .handle-in);
         same = ap (λ x. meaning s x (sheet-counts sheet)) e ∙ descends .1 ∙ w .same;
       }
+
+-- ---- the operation
+module _ (limits : Limits) (s sheet : List ℕ) {b : Bool} (eb : b ≡ sound limits s) where
+  pub not-sound : (h : ℕ) → b ≡ false → NotSound ≡ read-sheet limits s h sheet
+  unfolding read-sheet
+  not-sound h t = rw (← eb, t)
+
+  module _ (t : b ≡ true) where
+    snd : Sound limits s
+    snd = sound-says limits s (sym eb ∙ t)
+
+    pub fields-word : 0 < length s
+    fields-word = omega (arith, snd .list-in)
+
+    pub used-word : 2 < length s
+    used-word = omega (arith, snd .list-in)
+
+    pub used-fits-word : {u : ℕ} → limits .entries ≤ capacity → u ≡ used s → u + leaves < 2 ^ 64
+    used-fits-word h e = omega (arith, used-few snd)
+
+    module _ {g u : ℕ} (h : ℕ) (eg : g ≡ h) (eu : u ≡ used s) where
+      pub no-handle : u + leaves ≤ g → NoHandle ≡ read-sheet limits s h sheet
+      unfolding read-sheet
+      no-handle l = rw (← eb, t, ← eg, ← eu, le-ltb g (u + leaves) l)
+
+      module _ (l : g < u + leaves) {n : ℕ} (en : n ≡ field-count s) where
+        pub wrong-length : length sheet ≢ n → WrongLength ≡ read-sheet limits s h sheet
+        unfolding read-sheet
+        wrong-length k = rw (← eb, t, ← eg, ← eu, lt-ltb g (u + leaves) l, ← en, ne-eqb (length sheet) n k)
+
+        module _ (k : length sheet ≡ n) where
+          pub can-read : Readable s h sheet
+          can-read = record { limits = limits; sound-in = sym eb ∙ t; handle-in = omega arith; length-is = k ∙ en }
+
+          pub has-read : {m : Bool} → m ≡ meaning s h (sheet-counts sheet) → Satisfies m ≡ read-sheet limits s h sheet
+          unfolding read-sheet
+          has-read em = rw (← eb, t, em, ← en, eq-eqb (length sheet) n k, ← eg, ← eu, lt-ltb g (u + leaves) l)

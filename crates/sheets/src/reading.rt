@@ -5,9 +5,15 @@ ghost use lib.ListN.{length};
 ghost use Rattle.terms.specs.Meaning.{value, truth};
 ghost use Rattle.terms.specs.Words as words;
 ghost use Rattle.store.specs.Layout as layout;
+ghost use Rattle.store.specs.Limits as limit;
 ghost use Rattle.store.specs.Meaning as meaning;
+ghost use Rattle.index.specs.Capacity.{capacity};
 ghost use Rattle.sheets.specs.Sheet as sheets;
 ghost use Rattle.sheets.specs.Read as spec;
+use crate::answer::Read;
+use soundness::is_sound;
+use store::Limits;
+use store::limits_of_store;
 use store::no_of;
 use store::question_of;
 use store::wide;
@@ -17,14 +23,6 @@ use terms::term_of;
 
 // The handles of the leaves never and always come before those of the entries.
 const LEAVES: usize = 2;
-
-// What reading answers: whether the sheet satisfies the handle, or why it was not read.
-pub enum Read {
-    Satisfies(bool),
-    NotSound,
-    NoHandle,
-    WrongLength,
-}
 
 // A field's count.
 fn count_of(sheet: &[u16], f: Field) -> u32
@@ -81,26 +79,26 @@ pub fn read_sound(s: &[u32], handle: u32, sheet: &[u16]) -> bool
     h == 1
 }
 
-// The number of an answer.
-pub fn read_number(r: Read) -> u32
-    ensures { λ n. ⌜ n ≡ spec.read-number r ⌝ }
+// Reads a sheet against a handle within limits.
+pub fn read_within(limits: Limits, s: &[u32], handle: u32, sheet: &[u16]) -> Read
+    requires { ⌜ limits .entries ≤ capacity ⌝ }
+    ensures { λ r. ⌜ r ≡ spec.read-sheet limits (now (s .entry)) handle (now (sheet .entry)) ⌝ }
 {
-    match r {
-        Read::Satisfies(_) => 0,
-        Read::NotSound => 22,
-        Read::NoHandle => 41,
-        Read::WrongLength => 23,
+    if is_sound(limits, s) {
+        if wide(handle) < wide(s[2]) + LEAVES {
+            if sheet.len() == wide(s[0]) {
+                return Read::Satisfies(read_sound(s, handle, sheet));
+            }
+            return Read::WrongLength;
+        }
+        return Read::NoHandle;
     }
+    Read::NotSound
 }
 
-// The result of an answer.
-pub fn read_result(r: Read) -> u32
-    ensures { λ n. ⌜ n ≡ spec.read-result r ⌝ }
+// Reads a sheet against a handle.
+pub fn read(s: &[u32], handle: u32, sheet: &[u16]) -> Read
+    ensures { λ r. ⌜ r ≡ spec.read-sheet limit.store-limits (now (s .entry)) handle (now (sheet .entry)) ⌝ }
 {
-    match r {
-        Read::Satisfies(b) => { if b { 1 } else { 0 } }
-        Read::NotSound => 0,
-        Read::NoHandle => 0,
-        Read::WrongLength => 0,
-    }
+    read_within(limits_of_store(), s, handle, sheet)
 }

@@ -5,3 +5,4 @@ pub mod SoundTree
 pub mod TreePaths
 pub mod StoreWords
 pub mod SoundList
+pub mod ListWays

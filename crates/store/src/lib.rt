@@ -11,3 +11,5 @@ pub use entries::yes_of;
 pub use limits::Limits;
 pub use limits::limits_of_store;
 pub use opening::Opened;
+pub use opening::list_fault;
+pub use opening::question_fault;

@@ -1,0 +1,5 @@
+pub mod Below
+pub mod FirstLaws
+pub mod SameEntry
+pub mod ChainLaws
+pub mod IndexLaws

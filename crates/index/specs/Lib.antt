@@ -1,0 +1,3 @@
+pub mod Capacity
+pub mod Entries
+pub mod Chains

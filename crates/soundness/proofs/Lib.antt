@@ -1,0 +1,2 @@
+pub mod EntryWays
+pub mod SoundWays

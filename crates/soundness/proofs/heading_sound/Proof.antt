@@ -1,0 +1,66 @@
+-- `heading_sound` meets its contract: the first test that fails decides, and else the list.
+use borrow.Author.Needs.{needs}
+use Rattle.soundness.proofs.SoundWays.{heading-short, too-many-fields, too-many-questions, list-cut, by-list}
+use Rattle.soundness.proofs.heading_sound.Statement.{statement}
+use Rattle.soundness.proofs.heading_sound.Tie as tie
+
+returns : tie.Need-returns
+returns c = search (needs, heading-short)
+
+shared-slice-read-n : tie.Need-shared-slice-read-n
+shared-slice-read-n c = search needs
+
+returns-2 : tie.Need-returns-2
+returns-2 c = search (needs, too-many-fields)
+
+shared-slice-read-if3 : tie.Need-shared-slice-read-if3
+shared-slice-read-if3 c = search needs
+
+returns-3 : tie.Need-returns-3
+returns-3 c = search (needs, too-many-questions)
+
+entries-start-requires : tie.Need-entries-start-requires
+entries-start-requires c κs = search needs
+
+returns-4 : tie.Need-returns-4
+returns-4 c = search (needs, list-cut)
+
+mul-list-fault : tie.Need-mul-list-fault
+mul-list-fault c = search needs
+
+sub-list-fault : tie.Need-sub-list-fault
+sub-list-fault c = search needs
+
+part-list-fault-start : tie.Need-part-list-fault-start
+part-list-fault-start c = search needs
+
+part-list-fault-end : tie.Need-part-list-fault-end
+part-list-fault-end c = search needs
+
+list-fault-requires : tie.Need-list-fault-requires
+list-fault-requires c κs = search needs
+
+is-accepted-requires : tie.Need-is-accepted-requires
+is-accepted-requires c κs = search needs
+
+returns-5 : tie.Need-returns-5
+returns-5 c = search (needs, by-list)
+
+pub heading-sound-spec : {M : Type 1} → statement M
+heading-sound-spec =
+    tie.close
+    (tie.spec
+    returns
+    shared-slice-read-n
+    returns-2
+    shared-slice-read-if3
+    returns-3
+    entries-start-requires
+    returns-4
+    mul-list-fault
+    sub-list-fault
+    part-list-fault-start
+    part-list-fault-end
+    list-fault-requires
+    is-accepted-requires
+    returns-5)

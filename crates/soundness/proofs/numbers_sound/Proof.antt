@@ -1,0 +1,54 @@
+-- `numbers_sound` meets its contract: the first test that fails decides, and else the last.
+use borrow.Author.Needs.{needs}
+use Rattle.soundness.proofs.EntryWays.{question-zero, question-high, yes-high, no-high, by-difference}
+use Rattle.soundness.proofs.numbers_sound.Statement.{statement}
+use Rattle.soundness.proofs.numbers_sound.Tie as tie
+
+question-of-requires : tie.Need-question-of-requires
+question-of-requires c κs = search needs
+
+returns : tie.Need-returns
+returns c = search (needs, question-zero)
+
+shared-slice-read-if2 : tie.Need-shared-slice-read-if2
+shared-slice-read-if2 c = search needs
+
+returns-2 : tie.Need-returns-2
+returns-2 c = search (needs, question-high)
+
+yes-of-requires : tie.Need-yes-of-requires
+yes-of-requires c κs = search needs
+
+add-if3 : tie.Need-add-if3
+add-if3 c = search needs
+
+returns-3 : tie.Need-returns-3
+returns-3 c = search (needs, yes-high)
+
+no-of-requires : tie.Need-no-of-requires
+no-of-requires c κs = search needs
+
+add-if4 : tie.Need-add-if4
+add-if4 c = search needs
+
+returns-4 : tie.Need-returns-4
+returns-4 c = search (needs, no-high)
+
+returns-5 : tie.Need-returns-5
+returns-5 c = search (needs, by-difference)
+
+pub numbers-sound-spec : {M : Type 1} → statement M
+numbers-sound-spec =
+    tie.close
+    (tie.spec
+    question-of-requires
+    returns
+    shared-slice-read-if2
+    returns-2
+    yes-of-requires
+    add-if3
+    returns-3
+    no-of-requires
+    add-if4
+    returns-4
+    returns-5)
