@@ -8,8 +8,8 @@ use Rattle.store.specs.declared.limits.Limits.{Limits}
 use Rattle.store.specs.Layout.{field-count, used, leaves}
 use Rattle.store.specs.Meaning.{meaning}
 use Rattle.store.specs.Sound.{sound}
-use Rattle.sheets.specs.declared.reading.Read.{Read}
-use Rattle.sheets.specs.declared.reading.Read.the-variants.{Satisfies, NotSound, NoHandle, WrongLength}
+use Rattle.sheets.specs.declared.answer.Read.{Read}
+use Rattle.sheets.specs.declared.answer.Read.the-variants.{Satisfies, NotSound, NoHandle, WrongLength}
 use Rattle.sheets.specs.Sheet.{sheet-counts}
 
 -- "Read: 22, 41, 23."

@@ -1,4 +1,10 @@
 // Reading a sheet against a handle.
+mod answer;
 mod reading;
 
-pub use reading::Read;
+pub use answer::Read;
+pub use answer::read_number;
+pub use answer::read_result;
+pub use reading::read;
+pub use reading::read_sound;
+pub use reading::read_within;

@@ -4,6 +4,7 @@ pub mod Handles
 pub mod SoundTree
 pub mod TreePaths
 pub mod StoreWords
+pub mod SoundList
 pub mod OpenAccepts
 pub mod OpenedWords
 pub mod OpenSound

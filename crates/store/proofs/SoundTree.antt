@@ -1,7 +1,7 @@
 -- The diagrams of a sound store: a handle means what its tree does, along every path the question numbers rise, the parts of an entry
 -- differ, and two handles with one tree are the same, since no two entries are equal.
 use Prim.Native.Nat.{ℕ, zero, suc, _+_, _-_, _≤_, _<_}
-use mathlib.Core.Path.{_≡_, sym, _∙_, ap}
+use mathlib.Core.Path.{_≡_, sym, _∙_, ap, ap₂}
 use mathlib.Core.Logic.{_≢_, _↔_}
 use mathlib.Core.Bool.{Bool, true, false, true≢false, false≢true, cond}
 use mathlib.Core.List.{List}
@@ -53,6 +53,17 @@ module _ {limits : Limits} {s : List ℕ} (snd : Sound limits s) where
   meaning-is-tree h l v = by-handles falling (StepsEnough s v)
       (λ g k steps _. ap (λ x. eqb x 1) (leaf-stays steps s v g k) ∙ sym (ap (tree-truth (λ k. truth v (question s k))) (tree-leaf s g k)))
       (entry-steps v) h l h (omega arith)
+
+  -- An entry means what its yes handle does where its question is true, and what its no handle does where it is not.
+  pub meaning-entry : (i : ℕ) → i < used s → (v : Valuation)
+      → meaning s (i + leaves) v ≡ cond (truth v (question s (entry s i .question))) (meaning s (entry s i .yes-to) v) (meaning s (entry s i .no-to) v)
+  meaning-entry i h v =
+      let e = entry s i in
+      let answers : ℕ → Bool = λ k. truth v (question s k) in
+      let k = snd .entry-kept i h in
+      meaning-is-tree (i + leaves) (omega arith) v
+      ∙ ap (tree-truth answers) (tree-node i h)
+      ∙ ap₂ (cond (answers (e .question))) (sym (meaning-is-tree (e .yes-to) (omega (arith, k .yes-below)) v)) (sym (meaning-is-tree (e .no-to) (omega (arith, k .no-below)) v))
 
   ascending-from : (h : ℕ) → h < used s + leaves → (least : ℕ) → (leaves ≤ h → least ≤ entry s (h - leaves) .question) → Ascending least (question-count s) (tree s h)
   ascending-from = by-handles falling (λ h. (least : ℕ) → (leaves ≤ h → least ≤ entry s (h - leaves) .question) → Ascending least (question-count s) (tree s h))

@@ -11,11 +11,11 @@ use lib.Dec.{eqb}
 use lib.ListN.{getD}
 use Rattle.store.specs.Sound.{all-below, all-zero}
 
-first-passes : (a b : Bool) → (a && b) ≡ true → a ≡ true
+pub first-passes : (a b : Bool) → (a && b) ≡ true → a ≡ true
 first-passes true b e = refl
 first-passes false b e = e
 
-second-passes : (a b : Bool) → (a && b) ≡ true → b ≡ true
+pub second-passes : (a b : Bool) → (a && b) ≡ true → b ≡ true
 second-passes true b e = e
 second-passes false b e = absurd (false≢true e)
 

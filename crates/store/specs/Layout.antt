@@ -1,5 +1,5 @@
 -- The words of a store (document 01, "The store").
-use Prim.Native.Nat.{ℕ, zero, suc, _+_, _-_, _*_, _/_, min}
+use Prim.Native.Nat.{ℕ, zero, suc, _+_, _-_, _*_, _/_, _≤_, min}
 use mathlib.Core.List.{List, [], _∷_, _++_}
 use lib.ListN.{length, getD, take, drop}
 use Rattle.terms.specs.declared.term.Equation.{Equation}
@@ -43,6 +43,10 @@ abbrev pub entry : List ℕ → ℕ → Entry
 entry s i =
     let at = entries-start s + 3 * i in
     record { question = getD s at 0; yes-to = getD s (at + 1) 0; no-to = getD s (at + 2) 0 }
+
+-- the i-th entry lies within the words
+abbrev pub HasEntry : List ℕ → ℕ → Type 0
+HasEntry s i = entries-start s + 3 * i + 3 ≤ length s
 
 -- "Handle 0 is the leaf never, 1 the leaf always; the i-th entry, counted from 0, is handle i + 2."
 abbrev pub leaves : ℕ

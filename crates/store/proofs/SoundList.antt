@@ -1,0 +1,81 @@
+-- The questions of a sound store keep the limits of its terms: a list is accepted only if each of its questions is, and a question only if
+-- both of its terms are within the limits.
+use Prim.Native.Nat.{ℕ, zero, suc, _+_, _-_, _≤_, _<_}
+use mathlib.Core.Path.{_≡_, refl, ap, _∙_}
+use mathlib.Core.Bool.{Bool, true, false, cond, _&&_, and-false}
+use mathlib.Core.List.{List}
+use native.Mathlib.Omega.{arith}
+use native.Mathlib.Decide.{ℕ-discrete}
+use borrow.Author.Tests.{leb-true}
+use lib.Dec.{leb}
+use Rattle.terms.specs.declared.term.Equation.{Equation}
+use Rattle.terms.specs.declared.term.Term.{Term}
+use Rattle.terms.specs.declared.term.TermLimits.{TermLimits}
+use Rattle.terms.specs.Words.{allows}
+use Rattle.terms.specs.Form.{is-simplified}
+use Rattle.terms.proofs.Cases.{by-test}
+use Rattle.store.specs.declared.limits.Limits.{Limits}
+use Rattle.store.specs.declared.opening.Opened.{Opened}
+use Rattle.store.specs.declared.opening.Opened.the-variants.{Accepted, TooManyFields, OddList, TooManyQuestions, OutOfLimits, NotSimplified, NotAbove, TooShort}
+use Rattle.store.specs.Layout.{field-count, question-count, list-words, question-in, question}
+use Rattle.store.specs.Limits.{terms-within}
+use Rattle.store.specs.Open.{above-last, question-fault, and-then, list-fault}
+use Rattle.store.proofs.SoundFacts.{Sound}
+use Rattle.store.proofs.Tests.{first-passes, second-passes}
+
+-- both answers are accepted if the first of them that is a refusal is
+both-accepted : (a b : Opened) → and-then a b ≡ Accepted → (a ≡ Accepted) × (b ≡ Accepted)
+both-accepted Accepted b e = (refl, e)
+both-accepted TooManyFields b e = absurd (let z : _≡_ {A = ℕ} 0 1 = cc in omega arith)
+both-accepted OddList b e = absurd (let z : _≡_ {A = ℕ} 0 1 = cc in omega arith)
+both-accepted TooManyQuestions b e = absurd (let z : _≡_ {A = ℕ} 0 1 = cc in omega arith)
+both-accepted OutOfLimits b e = absurd (let z : _≡_ {A = ℕ} 0 1 = cc in omega arith)
+both-accepted NotSimplified b e = absurd (let z : _≡_ {A = ℕ} 0 1 = cc in omega arith)
+both-accepted NotAbove b e = absurd (let z : _≡_ {A = ℕ} 0 1 = cc in omega arith)
+both-accepted TooShort b e = absurd (let z : _≡_ {A = ℕ} 0 1 = cc in omega arith)
+
+module _ (limits : TermLimits) (words : List ℕ) where
+  pub each-accepted : (left k : ℕ) → list-fault limits words left k ≡ Accepted → (j : ℕ) → k ≤ j → j < k + left → question-fault limits words j ≡ Accepted
+  unfolding list-fault
+  each-accepted zero k e j l h = absurd (omega arith)
+  each-accepted (suc left) k e j l h =
+      let both = both-accepted (question-fault limits words k) (list-fault limits words left (k + 1)) e in
+      elim (ℕ-discrete j k) [
+        | yes d ↦ ap (question-fault limits words) d ∙ both .0
+        | no n ↦ each-accepted left (k + 1) (both .1) j (omega arith) (omega arith)
+      ]
+
+  -- what is accepted passes the first test
+  pub accepted-allows : (k : ℕ) → question-fault limits words k ≡ Accepted → (allows limits (question-in words k .left) && allows limits (question-in words k .right)) ≡ true
+  unfolding question-fault
+  accepted-allows k =
+      let q = question-in words k in
+      by-test (λ t. cond t (cond (is-simplified q) (cond (above-last words k) Accepted NotAbove) NotSimplified) OutOfLimits ≡ Accepted → t ≡ true)
+      (allows limits (q .left) && allows limits (q .right)) (λ _ _. refl) (λ _ e. absurd (let z : _≡_ {A = ℕ} 0 1 = cc in omega arith))
+
+-- a term within limits
+pub record TermKept (limits : TermLimits) (t : Term) : Type 0 where
+  pub field-in : t .field .0 ≤ limits .field .0
+  pub steps-in : t .steps .0 ≤ limits .steps .0
+
+pub allows-says : (limits : TermLimits) (t : Term) → allows limits t ≡ true → TermKept limits t
+unfolding allows
+allows-says limits t e = record {
+  field-in = leb-true _ _ (first-passes (leb (t .field .0) (limits .field .0)) (leb (t .steps .0) (limits .steps .0)) e);
+  steps-in = leb-true _ _ (second-passes (leb (t .field .0) (limits .field .0)) (leb (t .steps .0) (limits .steps .0)) e);
+}
+
+pub record QuestionKept (limits : TermLimits) (q : Equation) : Type 0 where
+  pub left : TermKept limits (q .left)
+  pub right : TermKept limits (q .right)
+
+module _ {limits : Limits} {s : List ℕ} (snd : Sound limits s) where
+  pub sound-question : (k : ℕ) → 1 ≤ k → k ≤ question-count s → QuestionKept (terms-within limits (field-count s)) (question s k)
+  sound-question k h l =
+      let within = terms-within limits (field-count s) in
+      let q = question s k in
+      let both = accepted-allows within (list-words s) (k - 1) (each-accepted within (list-words s) (question-count s) 0 (snd .list-kept) (k - 1) (omega arith) (omega arith)) in
+      record {
+        left = allows-says within (q .left) (first-passes (allows within (q .left)) (allows within (q .right)) both);
+        right = allows-says within (q .right) (second-passes (allows within (q .left)) (allows within (q .right)) both);
+      }

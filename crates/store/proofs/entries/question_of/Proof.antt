@@ -1,0 +1,37 @@
+-- `question_of` meets its contract: the word that it reads is the entry's first.
+use borrow.Author.Needs.{needs}
+use Rattle.store.proofs.entries.question_of.Statement.{statement}
+use Rattle.store.proofs.entries.question_of.Tie as tie
+
+entries-start-requires : tie.Need-entries-start-requires
+entries-start-requires c κs = search needs
+
+mul-wide : tie.Need-mul-wide
+mul-wide c = search needs
+
+add-wide : tie.Need-add-wide
+add-wide c = search needs
+
+mul-wide-2 : tie.Need-mul-wide-2
+mul-wide-2 c = search needs
+
+shared-slice-read-wide : tie.Need-shared-slice-read-wide
+shared-slice-read-wide c = search needs
+
+wide-requires : tie.Need-wide-requires
+wide-requires c κs = search needs
+
+returns : tie.Need-returns
+returns c = cc
+
+pub question-of-spec : {M : Type 1} → statement M
+question-of-spec =
+    tie.close
+    (tie.spec
+    entries-start-requires
+    mul-wide
+    add-wide
+    mul-wide-2
+    shared-slice-read-wide
+    wide-requires
+    returns)
