@@ -4,6 +4,7 @@ mod limits;
 mod opening;
 
 pub use entries::entries_start;
+pub use entries::has_handle;
 pub use entries::no_of;
 pub use entries::question_of;
 pub use entries::wide;
