@@ -10,6 +10,7 @@ pub use decision::plan_yes;
 pub use least::Fixed;
 pub use least::Sheet;
 pub use least::least_sheet;
+pub use record::FIELDS;
 pub use record::Facts;
 pub use record::class_of;
 pub use record::no_facts;

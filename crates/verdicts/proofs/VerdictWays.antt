@@ -61,4 +61,4 @@ pub at-limits : {limits : Limits} → limits ≡ store-limits → limits .entrie
 at-limits e = rw e (omega arith)
 
 pub roomy-limits : {limits : Limits} → limits ≡ store-limits → Roomy limits
-roomy-limits e = rw e (record { fields-fit = omega arith; steps-fit = omega arith; questions-fit = omega arith })
+roomy-limits e = rw e (record { fields-fit = omega arith; steps-fit = omega arith; questions-fit = omega arith; counts-fit = omega arith })

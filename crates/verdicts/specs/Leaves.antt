@@ -1,5 +1,5 @@
 -- The leaves that choices of counts fitting a state reach in a diagram, by the decision at each of its questions.
-use Prim.Native.Nat.{ℕ, _+_, _-_, _≤_, _<_}
+use Prim.Native.Nat.{ℕ, _+_, _-_, _*_, _≤_, _<_}
 use mathlib.Core.Path.{_≡_}
 use mathlib.Core.Bool.{true, not, _||_}
 use mathlib.Core.List.{List}
@@ -33,11 +33,12 @@ pub record Listed (s : List ℕ) (k : ℕ) : Type 0 where
   pub listed : k ≤ question-count s
   pub within : entries-start s ≤ length s
 
--- Limits that a record of facts has room for.
+-- Limits that a record of facts has room for, the counts of a least sheet among them.
 pub record Roomy (limits : Limits) : Type 0 where
   pub fields-fit : limits .terms .field .0 ≤ last-field
   pub steps-fit : limits .terms .steps .0 ≤ most-steps
   pub questions-fit : limits .questions ≤ most-noes
+  pub counts-fit : last-field * (limits .terms .steps .0 + 1) ≤ most-steps
 
 -- A walk from a handle of a sound store: fewer questions have been answered no than the number of the handle's own question.
 pub record CanWalk (s : List ℕ) (handle : ℕ) (f : Facts) : Type 0 where

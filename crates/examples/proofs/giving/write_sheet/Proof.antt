@@ -1,0 +1,77 @@
+use Rattle.examples.proofs.giving.write_sheet.Statement.{statement}
+use Rattle.examples.proofs.giving.write_sheet.Tie as tie
+use Rattle.examples.proofs.giving.write_sheet.Reads as reads
+use Rattle.examples.proofs.giving.write_sheet.Lts as lts
+
+abbrev Inv-loop : tie.InvT-loop
+Inv-loop out₀ sheet i₀ out i = ?
+
+abbrev μ-loop : tie.MeasureT-loop
+μ-loop out₀ sheet i₀ out i = ?
+
+-- src/giving.rt:48:5
+loop-holds : tie.Need-loop-holds Inv-loop μ-loop
+loop-holds c = ?
+
+-- src/giving.rt:49:31
+add-out : tie.Need-add-out Inv-loop μ-loop
+add-out c = ?
+
+-- src/giving.rt:49:18
+mul-out : tie.Need-mul-out Inv-loop μ-loop
+mul-out c = ?
+
+-- src/giving.rt:49:18
+element-copy-out-out : tie.Need-element-copy-out-out Inv-loop μ-loop
+element-copy-out-out c = ?
+
+-- src/giving.rt:49:18
+cast-out : tie.Need-cast-out Inv-loop μ-loop
+cast-out c = ?
+
+-- src/giving.rt:49:9
+mul-out-2 : tie.Need-mul-out-2 Inv-loop μ-loop
+mul-out-2 c = ?
+
+-- src/giving.rt:49:9
+slice-write-out : tie.Need-slice-write-out Inv-loop μ-loop
+slice-write-out c = ?
+
+-- src/giving.rt:50:9
+add-i : tie.Need-add-i Inv-loop μ-loop
+add-i c = ?
+
+-- src/giving.rt:48:5
+loop-less : tie.Need-loop-less Inv-loop μ-loop
+loop-less c = ?
+
+-- src/giving.rt:48:5
+loop-again : tie.Need-loop-again Inv-loop μ-loop
+loop-again c = ?
+
+-- src/giving.rt:43:1
+same-length : tie.Need-same-length Inv-loop μ-loop
+same-length c = ?
+
+-- src/giving.rt:43:1
+returns : tie.Need-returns Inv-loop μ-loop
+returns c = ?
+
+pub write-sheet-spec : {M : Type 1} → statement M
+write-sheet-spec =
+    tie.close
+    (tie.spec
+    Inv-loop
+    μ-loop
+    loop-holds
+    add-out
+    mul-out
+    element-copy-out-out
+    cast-out
+    mul-out-2
+    slice-write-out
+    add-i
+    loop-less
+    loop-again
+    same-length
+    returns)
