@@ -6,3 +6,4 @@ pub mod FinishPaths
 pub mod EntryPlaced
 pub mod InsertTree
 pub mod InsertAgain
+pub mod InsertCount
