@@ -121,8 +121,8 @@ module _ {limits : Limits} {s₀ s : List ℕ} (snd : Sound limits s) (e : Entry
       }))
       (λ new none. rw (collect, sym (c .stored t) ∙ not-stored snd e f new) (counts-full (omega (arith, c .counted, c .same-room))))
 
-insert-counts : {limits : Limits} {s₀ : List ℕ} (t : Tree) {s : List ℕ} (xs : List Tree) → Sound limits s → (least most : ℕ) → Ascending least most t → Reduced t → 1 ≤ least
-    → most ≤ question-count s → Collected limits s₀ s xs → Counts limits s₀ (new-trees s₀ t xs) (insert limits t s)
+insert-counts : {limits : Limits} {s₀ : List ℕ} (t : Tree) {s : List ℕ} (xs : List Tree) → Sound limits s → (least most : ℕ) → Ascending least most t → Reduced t
+    → 1 ≤ least → most ≤ question-count s → Collected limits s₀ s xs → Counts limits s₀ (new-trees s₀ t xs) (insert limits t s)
 unfolding insert new-trees
 insert-counts (leaf b) xs snd least most a r some listed c = counts-at (leaf-handle b) c
 insert-counts {limits} {s₀} (node k y n) {s} xs snd least most a r some listed c =
@@ -146,12 +146,12 @@ insert-counts {limits} {s₀} (node k y n) {s} xs snd least most a r some listed
 
 -- "So used grows by the number of different entries of the finished diagram that weren't there before.", and 51 is answered exactly if "used plus new
 -- entries exceeds room".
-pub record Grows (limits : Limits) (t : Tree) (s : List ℕ) (o : Outcome Placed) : Type 0 where
+pub record GrowsBy (limits : Limits) (t : Tree) (s : List ℕ) (o : Outcome Placed) : Type 0 where
   pub fits : used s + new-count s t ≤ room limits s → (h : ℕ) × (o .answer ≡ At h) × (used (o .words) ≡ used s + new-count s t)
   pub full : room limits s < used s + new-count s t → o .answer ≡ Full
 
 module _ {limits : Limits} (t : Tree) {s : List ℕ} (snd : Sound limits s) (a : Ascending 1 (question-count s) t) (r : Reduced t) where
-  pub insert-count : Grows limits t s (insert limits t s)
+  pub insert-count : GrowsBy limits t s (insert limits t s)
   unfolding is-among
   insert-count = go (o .answer) refl
     where
@@ -164,7 +164,7 @@ module _ {limits : Limits} (t : Tree) {s : List ℕ} (snd : Sound limits s) (a :
       counts : Counts limits s (new-trees s t []) o
       counts = insert-counts t [] snd 1 (question-count s) a r (omega arith) (omega arith) none
 
-      go : (p : Placed) → o .answer ≡ p → Grows limits t s o
+      go : (p : Placed) → o .answer ≡ p → GrowsBy limits t s o
       go (At h) d =
           let c = counts .when-at h d in
           record { fits = λ _. (h, d, c .counted); full = λ l. absurd (omega (arith, c .counted, c .same-room, insert-grows t snd a r .sound .used-in)) }

@@ -126,7 +126,8 @@ module _ {limits : Limits} {s : List ℕ} (k : ℕ) {y n : Tree} {o₁ o₂ : Ou
   pub node-tree : tree-of (o₂ .words) (an-entry k hy hn) ≡ node k y n
   node-tree = ap₂ (node k) yes-tree (p₂ .stands hn e₂)
 
-  pub node-stands : (least most : ℕ) → Ascending least most (node k y n) → Reduced (node k y n) → 1 ≤ least → most ≤ question-count s → MayStand (o₂ .words) (used (o₂ .words)) (an-entry k hy hn)
+  pub node-stands : (least most : ℕ) → Ascending least most (node k y n) → Reduced (node k y n) → 1 ≤ least → most ≤ question-count s
+      → MayStand (o₂ .words) (used (o₂ .words)) (an-entry k hy hn)
   node-stands least most a r some listed =
       record {
         asks-some = omega (arith, a .0);
