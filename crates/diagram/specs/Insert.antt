@@ -1,17 +1,18 @@
 -- Adding a diagram to a store: "New entries are added with the yes part's first, then the no part's, then the entry itself; one already present
 -- is used again."
 use Prim.Native.Nat.{ℕ, zero, suc, _+_, _*_}
-use mathlib.Core.Bool.{Bool, true, false, cond}
-use mathlib.Core.List.{List}
+use mathlib.Core.Bool.{Bool, true, false, cond, _||_}
+use mathlib.Core.List.{List, [], _∷_}
 use lib.Dec.{ltb}
-use lib.ListN.{set}
+use lib.ListN.{length, set}
 use Rattle.store.specs.declared.limits.Limits.{Limits}
 use Rattle.store.specs.Layout.{Entry, used, entries-start, entry, leaves, room}
 use Rattle.store.specs.Outcome.{Outcome, outcome}
 use Rattle.store.specs.Sound.{same-entry}
-use Rattle.store.specs.Tree.{Tree, leaf, node}
+use Rattle.store.specs.Tree.{Tree, leaf, node, tree}
 use Rattle.diagram.specs.declared.placing.Placed.{Placed}
 use Rattle.diagram.specs.declared.placing.Placed.the-variants.{At, Full}
+use Rattle.diagram.specs.Finish.{same-tree}
 
 abbrev pub an-entry : ℕ → ℕ → ℕ → Entry
 an-entry k y n = record { question = k; yes-to = y; no-to = n }
@@ -49,3 +50,29 @@ unfoldable pub insert : Limits → Tree → List ℕ → Outcome Placed
 insert limits (leaf b) s = outcome (At (leaf-handle b)) s
 insert limits (node k y n) s =
     then-place (insert limits y s) (λ hy s₁. then-place (insert limits n s₁) (λ hn s₂. place-entry limits s₂ (an-entry k hy hn)))
+
+-- ---- how many entries are added
+-- the test passes for some number below
+unfoldable pub some-below : ℕ → (ℕ → Bool) → Bool
+some-below zero p = false
+some-below (suc k) p = some-below k p || p k
+
+-- a handle of the store has this tree
+unfoldable pub is-stored : List ℕ → Tree → Bool
+is-stored s t = some-below (used s + leaves) (λ h. same-tree (tree s h) t)
+
+unfoldable pub is-among : Tree → List Tree → Bool
+is-among t [] = false
+is-among t (x ∷ xs) = same-tree x t || is-among t xs
+
+-- a tree is collected if no handle of the store has it and it was not collected before
+unfoldable pub collect : List ℕ → Tree → List Tree → List Tree
+collect s t xs = cond (is-stored s t || is-among t xs) xs (t ∷ xs)
+
+-- "the different entries of the finished diagram that weren't there before": those of a diagram, collected after others
+unfoldable pub new-trees : List ℕ → Tree → List Tree → List Tree
+new-trees s (leaf b) xs = xs
+new-trees s (node k y n) xs = collect s (node k y n) (new-trees s n (new-trees s y xs))
+
+abbrev pub new-count : List ℕ → Tree → ℕ
+new-count s t = length (new-trees s t [])
