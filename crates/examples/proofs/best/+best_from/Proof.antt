@@ -99,7 +99,17 @@ best-from-yes-of-requires-2 t c κs = search (needs, seek-entry)
 
 -- src/best.rt:80:17
 best-from-best-from-requires-3 : (t : ℕ) → best-from-lts.Need-best-from-requires-3 (knows t) (best-from-at t) best-from.Post
-best-from-best-from-requires-3 t c κs = (search (needs, seek-yes-falls), search (needs, seek-yes))
+best-from-best-from-requires-3 t c κs =
+    let told = c .before in
+    let ask = told .before .before .before in
+    let start = ask .before .before .before .before .before .before in
+    let seek = start .pre .1 in
+    let not-never = ask .before .before .before .before .if1 .left in
+    let not-always = ask .before .before .before .if2 .left in (
+      seek-yes-falls seek not-never not-always (start .pre .0) (c .yes-of2 .ensures),
+      seek-yes seek not-never not-always (ask .before .before .question-of .ensures) (ask .before .question-at .ensures) (ask .ask .ensures)
+          (told .enum-told3 .given .1) (c .yes-of2 .ensures),
+    )
 
 -- src/best.rt:81:26
 best-from-no-of-requires-2 : (t : ℕ) → best-from-lts.Need-no-of-requires-2 (knows t) (best-from-at t) best-from.Post
@@ -111,17 +121,16 @@ best-from-no-requires t c κs = (search (needs, seek-small), search (needs, seek
 
 -- src/best.rt:81:13
 best-from-best-from-requires-4 : (t : ℕ) → best-from-lts.Need-best-from-requires-4 (knows t) (best-from-at t) best-from.Post
-best-from-best-from-requires-4 t c κs = 
+best-from-best-from-requires-4 t c κs =
     let told = c .before .before .before .before in
     let ask = told .before .before .before in
     let start = ask .before .before .before .before .before .before in
     let seek = start .pre .1 in
     let not-never = ask .before .before .before .before .if1 .left in
-    let not-always = ask .before .before .before .if2 .left in
-    (
+    let not-always = ask .before .before .before .if2 .left in (
       seek-no-falls seek not-never not-always (start .pre .0) (c .before .no-of2 .ensures),
       seek-no seek not-never not-always (ask .before .before .question-of .ensures) (ask .before .question-at .ensures) (ask .ask .ensures)
-      (told .enum-told3 .given .1) (c .before .no-of2 .ensures) (c .no .ensures),
+          (told .enum-told3 .given .1) (c .before .no-of2 .ensures) (c .no .ensures),
     )
 
 -- src/best.rt:61:1
@@ -134,7 +143,7 @@ best-from-returns-4 t c = search (needs, best-never)
 
 -- src/best.rt:61:1
 best-from-returns-5 : (t : ℕ) → best-from-lts.Need-returns-5 (knows t) (best-from-at t) best-from.Post
-best-from-returns-5 t c = 
+best-from-returns-5 t c =
     let no-part = c .before in
     let yes-part = no-part .before .before in
     let told = yes-part .before .before in
