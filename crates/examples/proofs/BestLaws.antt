@@ -1,29 +1,27 @@
 -- What the best sheet is on each way through the code: a sheet takes its place if it is before, and the diagram's parts are sought in turn.
-use Prim.Native.Nat.{ℕ, zero, suc, _+_, _-_, _*_, _≤_, _<_}
+use Prim.Native.Nat.{ℕ, zero, suc, _+_, _-_, _≤_, _<_}
 use mathlib.Core.Path.{_≡_, refl, sym, ap, ap₂, _∙_}
 use mathlib.Core.Logic.{_≢_}
-use mathlib.Core.Bool.{Bool, true, false, cond}
-use mathlib.Core.List.{List, [], _∷_}
+use mathlib.Core.Bool.{Bool, true, false}
+use mathlib.Core.List.{List, _∷_}
 use native.Mathlib.Omega.{arith}
-use lib.ListN.{length, getD}
+use lib.ListN.{getD}
 use Rattle.examples.specs.declared.best.Best as code
-use Rattle.examples.specs.Best.{counts-from, sheet, Best, none, some, lesser, best, sheet-of, best-of, Fields, CanSeek}
-use Rattle.facts.specs.declared.decision.Decision.{Decision}
+use Rattle.examples.specs.Best.{counts-from, sheet, Best, lesser, best, sheet-of, best-of, Fields, CanSeek}
 use Rattle.facts.specs.declared.decision.Decision.the-variants.{Always, Never, Open}
 use Rattle.facts.specs.declared.least.Sheet.{Sheet}
 use Rattle.facts.specs.declared.record.Facts.{Facts}
 use Rattle.facts.specs.declared.working.Asked.{Asked}
 use Rattle.facts.specs.Least.{least-sheet}
 use Rattle.facts.specs.LeastRecord.{HasLeast, LeastCounts}
-use Rattle.facts.specs.Record.{state, most-noes, Holds, AskedOf}
-use Rattle.facts.specs.State.{State, at, no-to, yes-to, decide}
+use Rattle.facts.specs.Record.{state, AskedOf}
+use Rattle.facts.specs.State.{at, no-to, yes-to, decide}
 use Rattle.store.specs.Layout.{question, entry, leaves}
-use Rattle.store.specs.Tree.{Tree, leaf, node, tree}
-use Rattle.store.proofs.SoundFacts.{sound-says}
-use Rattle.store.proofs.SoundTree.{tree-never, tree-always, tree-node}
+use Rattle.store.specs.Tree.{node, tree}
 use Rattle.terms.specs.declared.term.Equation.{Equation}
 use Rattle.terms.specs.Order.{lex}
-use Rattle.verdicts.specs.Leaves.{CanWalk}
+use Rattle.store.proofs.SoundFacts.{sound-says}
+use Rattle.store.proofs.SoundTree.{tree-never, tree-always, tree-node}
 use Rattle.verdicts.proofs.WalkLaws.{can-go-yes, can-go-no, can-skip-yes, can-skip-no}
 
 -- ---- the lesser of two

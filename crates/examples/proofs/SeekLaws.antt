@@ -4,12 +4,12 @@ use mathlib.Core.Path.{_≡_}
 use mathlib.Core.Logic.{_≢_}
 use mathlib.Core.List.{List}
 use Rattle.examples.specs.Best.{CanSeek}
-use Rattle.examples.proofs.BestLaws.{at-entry}
 use Rattle.facts.specs.declared.record.Facts.{Facts}
 use Rattle.facts.specs.Record.{most-noes, most-steps, Small, Ready}
 use Rattle.store.specs.Layout.{question, entry, leaves, HasEntry}
 use Rattle.terms.specs.declared.term.Equation.{Equation}
 use Rattle.verdicts.specs.Leaves.{Listed}
+use Rattle.examples.proofs.BestLaws.{at-entry}
 use Rattle.verdicts.proofs.WalkLaws.{has-entry, is-listed, can-ask, small-no, room-for-no, yes-falls, no-falls}
 
 module _ {s : List ℕ} {handle : ℕ} {f : Facts} {n : ℕ} (k : CanSeek s handle f n) (not-never : handle ≢ 0) (not-always : handle ≢ 1) where

@@ -2,14 +2,13 @@
 -- differ.
 use Prim.Native.Nat.{ℕ, zero, suc, _+_, _≤_, _<_}
 use mathlib.Core.Path.{_≡_, refl, sym, ap, _∙_}
-use mathlib.Core.Logic.{_≢_, _⊎_, inl, inr}
-use mathlib.Core.Bool.{Bool, true, false, true≢false, false≢true}
-use mathlib.Core.List.{List, [], _∷_}
+use mathlib.Core.Logic.{_≢_, inl, inr}
+use mathlib.Core.Bool.{true, false, true≢false, false≢true}
+use mathlib.Core.List.{List}
 use native.Mathlib.Omega.{arith}
 use native.Mathlib.Decide.{decLe, ℕ-discrete}
 use lib.ListN.{length}
 use Rattle.examples.specs.Best.{counts-from, sheet}
-use Rattle.examples.proofs.Sheets.{counts-length}
 use Rattle.facts.specs.Least.{IsLeast}
 use Rattle.facts.specs.State.{at}
 use Rattle.terms.specs.Meaning.{Valuation}
@@ -28,11 +27,15 @@ pub before-not-after : (xs ys : List ℕ) → lex xs ys ≡ true → lex ys xs �
 before-not-after xs ys a = by-test (λ t. t ≡ false) (lex ys xs) (λ b. absurd (not-both xs ys a b)) (λ _. refl)
 
 pub not-before-trans : (xs ys zs : List ℕ) → length xs ≡ length ys → lex xs ys ≡ false → lex ys zs ≡ false → lex xs zs ≡ false
-not-before-trans xs ys zs l a b = by-test (λ t. t ≡ false) (lex xs zs) (λ c. absurd (false≢true (sym b ∙ goes c))) (λ _. refl)
+not-before-trans xs ys zs l a b = by-test (λ t. t ≡ false) (lex xs zs) (λ c. absurd (go c)) (λ _. refl)
   where
-    -- ys is xs or before it
-    goes : lex xs zs ≡ true → lex ys zs ≡ true
-    goes c = by-test (λ t. t ≡ true) (lex ys zs) (λ _. refl) (λ d. absurd ?)
+    go : lex xs zs ≡ true → ⊥
+    go c =
+        let n : xs ≢ ys = λ e. true≢false (sym c ∙ ap (λ x. lex x zs) e ∙ b) in
+        elim (lex-total xs ys l n) [
+          | inl d ↦ true≢false (sym d ∙ a)
+          | inr d ↦ true≢false (sym (lex-transitive ys xs zs d c) ∙ b)
+        ]
 
 -- ---- the first field that differs
 agree-lex : (n i f : ℕ) (c d : ℕ → ℕ) → i ≤ f → f < i + n → ((g : ℕ) → i ≤ g → g < f → c g ≡ d g) → c f < d f → lex (counts-from n i c) (counts-from n i d) ≡ true
@@ -53,13 +56,13 @@ lex-agree (suc n) i c d e = elim (decLe (d i) (c i)) [
     | no m ↦ absurd (false≢true (sym (lex-more (c i) (d i) (counts-from n (i + 1) c) (counts-from n (i + 1) d) (omega arith)) ∙ e))
     | yes m ↦
         let w = lex-agree n (i + 1) c d (sym (lex-equal (c i) (d i) (counts-from n (i + 1) c) (counts-from n (i + 1) d) (omega arith)) ∙ e) in
-        (w .0, omega (arith, w .1), omega (arith, w .2), λ g a b. go g a b (w .3) (ℕ-discrete g i), w .4)
+        (w .0, omega (arith, w .1), omega (arith, w .2), λ g a b. go g a b (omega arith) (w .3) (ℕ-discrete g i), w .4)
   ]
 ]
   where
-    go : {f : ℕ} (g : ℕ) → i ≤ g → g < f → ((g : ℕ) → i + 1 ≤ g → g < f → c g ≡ d g) → Dec (g ≡ i) → c g ≡ d g
-    go g a b later (yes p) = ?
-    go g a b later (no p) = later g (omega arith) b
+    go : {f : ℕ} (g : ℕ) → i ≤ g → g < f → c i ≡ d i → ((g : ℕ) → i + 1 ≤ g → g < f → c g ≡ d g) → Dec (g ≡ i) → c g ≡ d g
+    go g a b here later (yes p) = rw p here
+    go g a b here later (no p) = later g (omega arith) b
 
 -- ---- the least sheet, as a list
 module _ (n : ℕ) (Meets : Valuation → Type 0) (v : Valuation) where

@@ -1,7 +1,7 @@
 -- A sheet written place by place: the places passed have the counts of the fields from 1 on, and in the end all have.
 use Prim.Native.Nat.{ℕ, zero, suc, _+_, _≤_, _<_}
 use mathlib.Core.Path.{_≡_, refl, sym, ap, _∙_}
-use mathlib.Core.List.{List, [], _∷_}
+use mathlib.Core.List.{List}
 use native.Mathlib.Omega.{arith}
 use native.Mathlib.Decide.{ℕ-discrete}
 use lib.ListN.{length, getD, set, length-set}
@@ -9,7 +9,7 @@ use lib.Seq.{ext-getD, getD-set-same, getD-set-other}
 use Rattle.examples.specs.Best.{counts-from}
 use Rattle.examples.proofs.Sheets.{counts-length}
 
-counts-at : (n i j : ℕ) (c : ℕ → ℕ) → j < n → getD (counts-from n i c) j 0 ≡ c (i + j)
+pub counts-at : (n i j : ℕ) (c : ℕ → ℕ) → j < n → getD (counts-from n i c) j 0 ≡ c (i + j)
 unfolding counts-from
 counts-at zero i j c h = absurd (omega arith)
 counts-at (suc n) i zero c h = let e : i + 0 ≡ i = omega arith in rw e refl

@@ -1,11 +1,10 @@
 -- Two sheets compared field by field: while the fields agree, the rest decides.
 use Prim.Native.Nat.{ℕ, zero, suc, _+_, _-_, _≤_, _<_}
 use mathlib.Core.Path.{_≡_, refl, sym, ap, _∙_}
-use mathlib.Core.Logic.{_≢_}
 use mathlib.Core.Bool.{true, false}
-use mathlib.Core.List.{List, [], _∷_}
+use mathlib.Core.List.{_∷_}
 use native.Mathlib.Omega.{arith}
-use lib.ListN.{length, getD}
+use lib.ListN.{length}
 use Rattle.examples.specs.Best.{counts-from}
 use Rattle.terms.specs.Order.{lex}
 use Rattle.terms.proofs.QuestionOrder.{lex-less, lex-equal, lex-more}

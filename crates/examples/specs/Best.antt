@@ -1,6 +1,5 @@
 -- The least sheet over the paths of a diagram that lead to always: at each such path the least sheet that fits its facts.
 use Prim.Native.Nat.{ℕ, zero, suc, _+_, _≤_}
-use mathlib.Core.Path.{_≡_}
 use mathlib.Core.Bool.{true, false, cond}
 use mathlib.Core.List.{List, [], _∷_}
 use lib.ListN.{getD}

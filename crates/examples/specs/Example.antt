@@ -1,8 +1,9 @@
 -- "Example: writes n counts (16-bit), field 1 first: the least satisfying sheet, field 1 compared first."
-use Prim.Native.Nat.{ℕ, suc, _+_, _≤_, _<_}
+use Prim.Native.Nat.{ℕ, zero, suc, _+_, _≤_, max}
 use mathlib.Core.Bool.{cond}
 use mathlib.Core.List.{List}
 use lib.Dec.{eqb, ltb}
+use lib.IntN.{natAbs}
 use lib.ListN.{length, getD}
 use Rattle.examples.specs.declared.giving.Example.{Example}
 use Rattle.examples.specs.declared.giving.Example.the-variants.{Written, NotSound, NoHandle, WrongLength, Nothing}
@@ -15,6 +16,7 @@ use Rattle.store.specs.Layout.{field-count, used, question, leaves}
 use Rattle.store.specs.Outcome.{Outcome, outcome}
 use Rattle.store.specs.Sound.{sound}
 use Rattle.store.specs.Tree.{tree}
+use Rattle.terms.specs.Simplify.{gap}
 
 -- "52, example of a rule that nothing satisfies"
 abbrev pub given : Best → List ℕ → Outcome Example
@@ -41,3 +43,8 @@ example-number Nothing = 52
 pub record CanWrite (s : Sheet) (out : List ℕ) : Type 0 where
   pub few : length out ≤ last-field
   pub small : (i : ℕ) → 1 ≤ i → i ≤ length out → getD (s .counts) i 0 ≤ most-steps
+
+-- "K the largest gap in the list without its sign, 0 for an empty list": of the first k questions
+unfoldable pub largest-gap : List ℕ → ℕ → ℕ
+largest-gap s zero = 0
+largest-gap s (suc k) = max (natAbs (gap (question s (suc k)))) (largest-gap s k)

@@ -1,10 +1,10 @@
 -- `best_from` meets its contract: on each way it goes on with a smaller handle, and what it finds is what the definition says at its entry.
-use borrow.Author.Needs.{needs}
-use Rattle.examples.proofs.BestLaws.{has-least, has-fields, never-best, always-best, at-entry, best-always, best-never, best-open, seek-yes, seek-no, skip-yes, skip-no}
-use Rattle.examples.proofs.SeekLaws.{seek-entry, seek-listed, seek-ask, seek-small, seek-room, seek-yes-falls, seek-no-falls}
 use Prim.Native.Nat.{ℕ, _<_}
+use borrow.Author.Needs.{needs}
 use borrow.Fn.Kinds.{In}
 use borrow.Fn.PlainCycle.{Measures, is, falls, and}
+use Rattle.examples.proofs.BestLaws.{has-least, has-fields, never-best, always-best, best-always, best-never, best-open, seek-yes, seek-no, skip-yes, skip-no}
+use Rattle.examples.proofs.SeekLaws.{seek-entry, seek-listed, seek-ask, seek-small, seek-room, seek-yes-falls, seek-no-falls}
 use Rattle.examples.proofs.best.best_from.Reads as best-from
 use Rattle.examples.proofs.best.best_from.Kinds as best-from-kinds
 use Rattle.examples.proofs.best.+best_from.Lts-best_from as best-from-lts
@@ -33,71 +33,54 @@ best-from-below t =
 abbrev knows : ℕ → best-from-lts.Claims
 knows t = (least-sheet-reads.Asked, least-sheet-reads.Learnt, lesser-reads.Asked, lesser-reads.Learnt, question-of-reads.Asked, question-of-reads.Learnt, question-at-reads.Asked, question-at-reads.Learnt, ask-reads.Asked, ask-reads.Learnt, yes-of-reads.Asked, yes-of-reads.Learnt, best-from-below t, best-from.Post, no-of-reads.Asked, no-of-reads.Learnt, no-reads.Asked, no-reads.Learnt)
 
--- src/best.rt:66:9
 best-from-returns : (t : ℕ) → best-from-lts.Need-returns (knows t) (best-from-at t) best-from.Post
 best-from-returns t c = search (needs, never-best)
 
--- src/best.rt:69:32
 best-from-least-sheet-requires : (t : ℕ) → best-from-lts.Need-least-sheet-requires (knows t) (best-from-at t) best-from.Post
 best-from-least-sheet-requires t c κs = search (needs, has-least)
 
--- src/best.rt:69:9
 best-from-lesser-requires : (t : ℕ) → best-from-lts.Need-lesser-requires (knows t) (best-from-at t) best-from.Post
 best-from-lesser-requires t c κs = search (needs, has-fields)
 
--- src/best.rt:69:9
 best-from-returns-2 : (t : ℕ) → best-from-lts.Need-returns-2 (knows t) (best-from-at t) best-from.Post
 best-from-returns-2 t c = search (needs, always-best)
 
--- src/best.rt:71:13
 best-from-sub-i : (t : ℕ) → best-from-lts.Need-sub-i (knows t) (best-from-at t) best-from.Post
 best-from-sub-i t c = search needs
 
--- src/best.rt:72:28
 best-from-question-of-requires : (t : ℕ) → best-from-lts.Need-question-of-requires (knows t) (best-from-at t) best-from.Post
 best-from-question-of-requires t c κs = search (needs, seek-entry)
 
--- src/best.rt:72:9
 best-from-question-at-requires : (t : ℕ) → best-from-lts.Need-question-at-requires (knows t) (best-from-at t) best-from.Post
 best-from-question-at-requires t c κs = search (needs, seek-listed)
 
--- src/best.rt:73:9
 best-from-ask-requires : (t : ℕ) → best-from-lts.Need-ask-requires (knows t) (best-from-at t) best-from.Post
 best-from-ask-requires t c κs = search (needs, seek-ask)
 
--- src/best.rt:77:42
 best-from-enum-told : (t : ℕ) → best-from-lts.Need-enum-told (knows t) (best-from-at t) best-from.Post
 best-from-enum-told t c = search needs
 
--- src/best.rt:77:42
 best-from-yes-of-requires : (t : ℕ) → best-from-lts.Need-yes-of-requires (knows t) (best-from-at t) best-from.Post
 best-from-yes-of-requires t c κs = search (needs, seek-entry)
 
--- src/best.rt:77:29
 best-from-best-from-requires : (t : ℕ) → best-from-lts.Need-best-from-requires (knows t) (best-from-at t) best-from.Post
 best-from-best-from-requires t c κs = (search (needs, seek-yes-falls), search (needs, skip-yes))
 
--- src/best.rt:78:41
 best-from-enum-told-2 : (t : ℕ) → best-from-lts.Need-enum-told-2 (knows t) (best-from-at t) best-from.Post
 best-from-enum-told-2 t c = search needs
 
--- src/best.rt:78:41
 best-from-no-of-requires : (t : ℕ) → best-from-lts.Need-no-of-requires (knows t) (best-from-at t) best-from.Post
 best-from-no-of-requires t c κs = search (needs, seek-entry)
 
--- src/best.rt:78:28
 best-from-best-from-requires-2 : (t : ℕ) → best-from-lts.Need-best-from-requires-2 (knows t) (best-from-at t) best-from.Post
 best-from-best-from-requires-2 t c κs = (search (needs, seek-no-falls), search (needs, skip-no))
 
--- src/best.rt:80:38
 best-from-enum-told-3 : (t : ℕ) → best-from-lts.Need-enum-told-3 (knows t) (best-from-at t) best-from.Post
 best-from-enum-told-3 t c = search needs
 
--- src/best.rt:80:38
 best-from-yes-of-requires-2 : (t : ℕ) → best-from-lts.Need-yes-of-requires-2 (knows t) (best-from-at t) best-from.Post
 best-from-yes-of-requires-2 t c κs = search (needs, seek-entry)
 
--- src/best.rt:80:17
 best-from-best-from-requires-3 : (t : ℕ) → best-from-lts.Need-best-from-requires-3 (knows t) (best-from-at t) best-from.Post
 best-from-best-from-requires-3 t c κs =
     let told = c .before in
@@ -111,15 +94,12 @@ best-from-best-from-requires-3 t c κs =
           (told .enum-told3 .given .1) (c .yes-of2 .ensures),
     )
 
--- src/best.rt:81:26
 best-from-no-of-requires-2 : (t : ℕ) → best-from-lts.Need-no-of-requires-2 (knows t) (best-from-at t) best-from.Post
 best-from-no-of-requires-2 t c κs = search (needs, seek-entry)
 
--- src/best.rt:81:39
 best-from-no-requires : (t : ℕ) → best-from-lts.Need-no-requires (knows t) (best-from-at t) best-from.Post
 best-from-no-requires t c κs = (search (needs, seek-small), search (needs, seek-room))
 
--- src/best.rt:81:13
 best-from-best-from-requires-4 : (t : ℕ) → best-from-lts.Need-best-from-requires-4 (knows t) (best-from-at t) best-from.Post
 best-from-best-from-requires-4 t c κs =
     let told = c .before .before .before .before in
@@ -133,15 +113,12 @@ best-from-best-from-requires-4 t c κs =
           (told .enum-told3 .given .1) (c .before .no-of2 .ensures) (c .no .ensures),
     )
 
--- src/best.rt:61:1
 best-from-returns-3 : (t : ℕ) → best-from-lts.Need-returns-3 (knows t) (best-from-at t) best-from.Post
 best-from-returns-3 t c = search (needs, best-always)
 
--- src/best.rt:61:1
 best-from-returns-4 : (t : ℕ) → best-from-lts.Need-returns-4 (knows t) (best-from-at t) best-from.Post
 best-from-returns-4 t c = search (needs, best-never)
 
--- src/best.rt:61:1
 best-from-returns-5 : (t : ℕ) → best-from-lts.Need-returns-5 (knows t) (best-from-at t) best-from.Post
 best-from-returns-5 t c =
     let no-part = c .before in

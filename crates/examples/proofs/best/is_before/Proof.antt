@@ -1,12 +1,10 @@
 -- `is_before` meets its contract: the fields passed agree, and the first that differ decide.
-use borrow.Author.Needs.{needs}
 use Prim.Native.Nat.{_+_, _-_}
+use borrow.Author.Needs.{needs}
 use lib.ListN.{getD}
 use Rattle.examples.proofs.Sheets.{Agreed, agreed-none, decides-before, decides-after, agreed-next, agreed-all}
 use Rattle.examples.proofs.best.is_before.Statement.{statement}
 use Rattle.examples.proofs.best.is_before.Tie as tie
-use Rattle.examples.proofs.best.is_before.Reads as reads
-use Rattle.examples.proofs.best.is_before.Lts as lts
 
 abbrev Inv-loop : tie.InvT-loop
 Inv-loop n a b i₀ i = Agreed n (λ j. getD (a .counts) j 0) (λ j. getD (b .counts) j 0) i
@@ -14,51 +12,39 @@ Inv-loop n a b i₀ i = Agreed n (λ j. getD (a .counts) j 0) (λ j. getD (b .co
 abbrev μ-loop : tie.MeasureT-loop
 μ-loop n a b i₀ i = n + 1 - i
 
--- src/best.rt:31:5
 loop-holds : tie.Need-loop-holds Inv-loop μ-loop
 loop-holds c = search (needs, agreed-none)
 
--- src/best.rt:32:18
 cast-at : tie.Need-cast-at Inv-loop μ-loop
 cast-at c = search needs
 
--- src/best.rt:33:17
 mul-x : tie.Need-mul-x Inv-loop μ-loop
 mul-x c = search needs
 
--- src/best.rt:33:17
 element-copy-out-x : tie.Need-element-copy-out-x Inv-loop μ-loop
 element-copy-out-x c = search needs
 
--- src/best.rt:34:17
 mul-y : tie.Need-mul-y Inv-loop μ-loop
 mul-y c = search needs
 
--- src/best.rt:34:17
 element-copy-out-y : tie.Need-element-copy-out-y Inv-loop μ-loop
 element-copy-out-y c = search needs
 
--- src/best.rt:36:13
 returns : tie.Need-returns Inv-loop μ-loop
 returns c = search (needs, decides-before)
 
--- src/best.rt:39:13
 returns-2 : tie.Need-returns-2 Inv-loop μ-loop
 returns-2 c = search (needs, decides-after)
 
--- src/best.rt:41:9
 add-i : tie.Need-add-i Inv-loop μ-loop
 add-i c = search needs
 
--- src/best.rt:31:5
 loop-less : tie.Need-loop-less Inv-loop μ-loop
 loop-less c = search needs
 
--- src/best.rt:31:5
 loop-again : tie.Need-loop-again Inv-loop μ-loop
 loop-again c = search (needs, agreed-next)
 
--- src/best.rt:26:1
 returns-3 : tie.Need-returns-3 Inv-loop μ-loop
 returns-3 c = search (needs, agreed-all)
 

@@ -1,15 +1,13 @@
 -- `write_sheet` meets its contract: each turn writes one more place, and no count is above 16 bits.
 use Prim.Native.Nat.{_+_}
-use lib.ListN.{length-set}
-use borrow.Author.Needs.{needs}
 use Prim.Native.Nat.{_-_}
 use native.Mathlib.Omega.{arith}
+use borrow.Author.Needs.{needs}
+use lib.ListN.{length-set}
 use lib.ListN.{length, getD}
 use Rattle.examples.proofs.SheetWritten.{WrittenTo, written-none, written-next, written-all}
 use Rattle.examples.proofs.giving.write_sheet.Statement.{statement}
 use Rattle.examples.proofs.giving.write_sheet.Tie as tie
-use Rattle.examples.proofs.giving.write_sheet.Reads as reads
-use Rattle.examples.proofs.giving.write_sheet.Lts as lts
 
 abbrev Inv-loop : tie.InvT-loop
 Inv-loop out₀ sheet i₀ out i = WrittenTo (λ j. getD (sheet .counts) j 0) out₀ i out
@@ -17,51 +15,39 @@ Inv-loop out₀ sheet i₀ out i = WrittenTo (λ j. getD (sheet .counts) j 0) ou
 abbrev μ-loop : tie.MeasureT-loop
 μ-loop out₀ sheet i₀ out i = length out - i
 
--- src/giving.rt:48:5
 loop-holds : tie.Need-loop-holds Inv-loop μ-loop
 loop-holds c = search (needs, written-none)
 
--- src/giving.rt:49:31
 add-out : tie.Need-add-out Inv-loop μ-loop
 add-out c = search needs
 
--- src/giving.rt:49:18
 mul-out : tie.Need-mul-out Inv-loop μ-loop
 mul-out c = omega (arith, c .before .before .pre .few, c .before .loop .inv .size)
 
--- src/giving.rt:49:18
 element-copy-out-out : tie.Need-element-copy-out-out Inv-loop μ-loop
 element-copy-out-out c = omega (arith, c .before .before .pre .few, c .before .loop .inv .size)
 
--- src/giving.rt:49:18
 cast-out : tie.Need-cast-out Inv-loop μ-loop
 cast-out c = omega (arith, c .before .before .before .pre .small (c .before .before .loop .i + 1) (omega arith) (omega (arith, c .before .before .loop .inv .size)))
 
--- src/giving.rt:49:9
 mul-out-2 : tie.Need-mul-out-2 Inv-loop μ-loop
 mul-out-2 c = omega (arith, c .before .before .before .pre .few, c .before .before .loop .inv .size)
 
--- src/giving.rt:49:9
 slice-write-out : tie.Need-slice-write-out Inv-loop μ-loop
 slice-write-out c = search needs
 
--- src/giving.rt:50:9
 add-i : tie.Need-add-i Inv-loop μ-loop
 add-i c = search needs
 
--- src/giving.rt:48:5
 loop-less : tie.Need-loop-less Inv-loop μ-loop
 loop-less c = simp length-set (omega arith)
 
--- src/giving.rt:48:5
 loop-again : tie.Need-loop-again Inv-loop μ-loop
 loop-again c = written-next (c .before .before .loop .inv) (search needs)
 
--- src/giving.rt:43:1
 same-length : tie.Need-same-length Inv-loop μ-loop
 same-length c = c .before .loop .inv .size
 
--- src/giving.rt:43:1
 returns : tie.Need-returns Inv-loop μ-loop
 returns c = search (needs, written-all)
 
