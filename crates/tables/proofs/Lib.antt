@@ -1,0 +1,5 @@
+pub mod Marks
+pub mod MarkedRows
+pub mod RowTruths
+pub mod WrittenRows
+pub mod WrittenMeans
