@@ -7,11 +7,12 @@ use mathlib.Core.List.{List, [], _++_}
 use native.Mathlib.Omega.{arith}
 use native.Mathlib.Decide.{decLt, ℕ-discrete}
 use borrow.Author.Tests.{lt-ltb, le-ltb}
+use lib.Dec.{ltb}
 use lib.ListN.{length, getD, length-append, List·getD-append}
 use lib.Seq.{getD-append-add}
 use Rattle.store.specs.Layout.{leaves}
-use Rattle.terms.proofs.Cases.{by-test}
 use Rattle.tables.specs.WriteBack.{marked-before, row-of, entry-rows, entries-rows}
+use Rattle.terms.proofs.Cases.{by-test}
 
 module _ (marks : List Bool) where
   pub before-marked : (k : ℕ) → getD marks (k + leaves) false ≡ true → marked-before marks (suc k) ≡ suc (marked-before marks k)
@@ -26,7 +27,7 @@ module _ (marks : List Bool) where
   before-next k = by-test (λ t. getD marks (k + leaves) false ≡ t → marked-before marks k ≤ marked-before marks (suc k)) (getD marks (k + leaves) false)
       (λ _ e. omega (arith, before-marked k e)) (λ _ e. omega (arith, before-unmarked k e)) refl
 
-  before-rises : (i k : ℕ) → i ≤ k → marked-before marks i ≤ marked-before marks k
+  pub before-rises : (i k : ℕ) → i ≤ k → marked-before marks i ≤ marked-before marks k
   before-rises i zero h = let e : i ≡ 0 = omega arith in rw e (omega arith)
   before-rises i (suc k) h = elim (ℕ-discrete i (suc k)) [
     | yes e ↦ rw e (omega arith)
@@ -63,11 +64,11 @@ module _ (marks : List Bool) where
 
   -- ---- the words of the rows
   module _ (s : List ℕ) where
-    unmarked-rows : (k : ℕ) → getD marks (k + leaves) false ≡ false → entries-rows s marks (suc k) ≡ entries-rows s marks k ++ []
+    pub unmarked-rows : (k : ℕ) → getD marks (k + leaves) false ≡ false → entries-rows s marks (suc k) ≡ entries-rows s marks k ++ []
     unfolding entries-rows
     unmarked-rows k e = rw e refl
 
-    marked-rows : (k : ℕ) → getD marks (k + leaves) false ≡ true → entries-rows s marks (suc k) ≡ entries-rows s marks k ++ entry-rows s marks k
+    pub marked-rows : (k : ℕ) → getD marks (k + leaves) false ≡ true → entries-rows s marks (suc k) ≡ entries-rows s marks k ++ entry-rows s marks k
     unfolding entries-rows
     marked-rows k e = rw e refl
 
@@ -93,3 +94,17 @@ module _ (marks : List Bool) where
       | no d ↦ List·getD-append (entries-rows s marks k) (cond (getD marks (k + leaves) false) (entry-rows s marks k) []) 0 (8 * marked-before marks i + t)
           (omega (arith, entries-length k, before-later i k (omega arith) e)) ∙ entry-word i k (omega arith) e t l
     ]
+
+-- ---- flags that agree
+before-alike : (a b : List Bool) (k : ℕ) → ((i : ℕ) → i < k → getD a (i + leaves) false ≡ getD b (i + leaves) false) → marked-before a k ≡ marked-before b k
+unfolding marked-before
+before-alike a b zero f = refl
+before-alike a b (suc k) f = rw (f k (omega arith), before-alike a b k (λ i h. f i (omega arith))) refl
+
+module _ (a b : List Bool) (n : ℕ) (f : (g : ℕ) → g < n → getD a g false ≡ getD b g false) where
+  pub count-alike : marked-before a (n - leaves) ≡ marked-before b (n - leaves)
+  count-alike = before-alike a b (n - leaves) (λ i h. f (i + leaves) (omega arith))
+
+  pub row-alike : (g : ℕ) → g < n → row-of a g ≡ row-of b g
+  unfolding row-of
+  row-alike g h = ap (λ k. cond (ltb g leaves) g (3 + 2 * k)) (before-alike a b (g - leaves) (λ i l. f (i + leaves) (omega arith)))

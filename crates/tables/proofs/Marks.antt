@@ -13,11 +13,11 @@ use lib.ListN.{length, getD, set, replicate, length-set, length-replicate}
 use lib.Seq.{getD-set-same, getD-set-other}
 use Rattle.store.specs.declared.limits.Limits.{Limits}
 use Rattle.store.specs.Layout.{entry, leaves, used}
+use Rattle.tables.specs.WriteBack.{mark-parts, marks-down, reachable, Reaches, itself, by-yes, by-no}
 use Rattle.terms.proofs.Cases.{by-test}
 use Rattle.store.proofs.Handles.{Falling}
 use Rattle.store.proofs.SoundFacts.{Sound}
 use Rattle.store.proofs.SoundTree.{falling}
-use Rattle.tables.specs.WriteBack.{mark-parts, marks-down, reachable, Reaches, itself, by-yes, by-no}
 
 -- ---- one entry
 two-set : (marks : List Bool) (y n : ℕ) → y < length marks → n < length marks → (g : ℕ)
@@ -153,10 +153,10 @@ none-marked (suc n) zero = refl
 none-marked (suc n) (suc g) = none-marked n g
 
 -- the flags that the pass from a handle begins with
-abbrev first-marks : ℕ → List Bool
+abbrev pub first-marks : ℕ → List Bool
 first-marks h = set (replicate (suc h) false) h true
 
-first-length : (h : ℕ) → length (first-marks h) ≡ suc h
+pub first-length : (h : ℕ) → length (first-marks h) ≡ suc h
 first-length h = length-set (replicate (suc h) false) h true ∙ length-replicate (suc h) false
 
 pub reachable-length : (s : List ℕ) (h : ℕ) → length (reachable s h) ≡ suc h

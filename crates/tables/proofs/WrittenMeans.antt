@@ -14,12 +14,12 @@ use Rattle.terms.specs.Words.{equation, term-of}
 use Rattle.store.specs.declared.limits.Limits.{Limits}
 use Rattle.store.specs.Layout.{entry, leaves, question, used}
 use Rattle.store.specs.Meaning.{meaning}
+use Rattle.tables.specs.Rows.{row-truth, row-truths, rule-meaning}
+use Rattle.tables.specs.WriteBack.{reachable, marked-before, row-of, written-rows, written-count}
 use Rattle.store.proofs.Handles.{by-handles, leaf-stays}
 use Rattle.store.proofs.SoundFacts.{Sound}
 use Rattle.store.proofs.SoundTree.{falling, meaning-entry}
 use Rattle.store.proofs.StoreWords.{question-words}
-use Rattle.tables.specs.Rows.{row-truth, row-truths, rule-meaning}
-use Rattle.tables.specs.WriteBack.{reachable, marked-before, row-of, written-rows, written-count}
 use Rattle.tables.proofs.Marks.{handle-marked, marked-closed}
 use Rattle.tables.proofs.MarkedRows.{before-marked, before-few, row-of-leaf, row-of-entry}
 use Rattle.tables.proofs.RowTruths.{truth-at, truth-stays, never-truth, always-truth, equation-truth, choice-truth}

@@ -12,10 +12,10 @@ use lib.ListN.{length, getD, List·getD-append}
 use lib.Seq.{getD-append-add}
 use Rattle.store.specs.declared.limits.Limits.{Limits}
 use Rattle.store.specs.Layout.{heading-length, entry, leaves, used}
-use Rattle.terms.proofs.Cases.{by-test, by-eq}
-use Rattle.store.proofs.SoundFacts.{Sound}
 use Rattle.tables.specs.Rows.{Row, row, row-length, row-count}
 use Rattle.tables.specs.WriteBack.{reachable, marked-before, row-of, entry-rows, entries-rows, written-rows, written-count, WellFormed, is-never, is-always, is-question, is-choice}
+use Rattle.terms.proofs.Cases.{by-test, by-eq}
+use Rattle.store.proofs.SoundFacts.{Sound}
 use Rattle.tables.proofs.Marks.{marked-closed}
 use Rattle.tables.proofs.MarkedRows.{before-marked, before-unmarked, row-of-lower, entries-length, entry-word}
 

@@ -11,8 +11,8 @@ use Rattle.store.specs.declared.limits.Limits.{Limits}
 use Rattle.store.specs.Layout.{question-count, used, heading-length, entry, leaves}
 use Rattle.store.specs.Outcome.{Outcome, outcome}
 use Rattle.store.specs.Sound.{sound}
-use Rattle.tables.specs.declared.writing.Written.{Written}
-use Rattle.tables.specs.declared.writing.Written.the-variants.{Rows, NotSound, NoHandle, TooManyRows, TooShort}
+use Rattle.tables.specs.declared.answer.Written.{Written}
+use Rattle.tables.specs.declared.answer.Written.the-variants.{Rows, NotSound, NoHandle, TooManyRows, TooShort}
 use Rattle.tables.specs.Rows.{Row, row-length}
 
 -- A flag for each handle: the i-th entry, if it is marked, marks its two handles.
