@@ -34,7 +34,7 @@ module _ (marks : List Bool) where
     | no n ↦ omega (arith, before-rises i k (omega arith), before-next k)
   ]
 
-  pub before-later : (i k : ℕ) → i < k → getD marks (i + leaves) false ≡ true → marked-before marks i < marked-before marks k
+  before-later : (i k : ℕ) → i < k → getD marks (i + leaves) false ≡ true → marked-before marks i < marked-before marks k
   before-later i k h e = omega (arith, before-rises (suc i) k h, before-marked i e)
 
   pub before-few : (k : ℕ) → marked-before marks k ≤ k
@@ -72,7 +72,7 @@ module _ (marks : List Bool) where
     unfolding entries-rows
     marked-rows k e = rw e refl
 
-    pub entry-length : (i : ℕ) → length (entry-rows s marks i) ≡ 8
+    entry-length : (i : ℕ) → length (entry-rows s marks i) ≡ 8
     unfolding entry-rows
     entry-length i = refl
 

@@ -38,24 +38,24 @@ module _ (s : List ℕ) (i : ℕ) (marks : List Bool) where
 
   module _ (hy : entry s i .yes-to < length marks) (hn : entry s i .no-to < length marks) where
     -- a handle is marked after the entry if it was before, or if the entry is marked and names it
-    pub parts-flag : (g : ℕ) → getD (mark-parts s i marks) g false ≡ (getD marks g false || (getD marks (i + leaves) false && (eqb g (entry s i .yes-to) || eqb g (entry s i .no-to))))
+    parts-flag : (g : ℕ) → getD (mark-parts s i marks) g false ≡ (getD marks g false || (getD marks (i + leaves) false && (eqb g (entry s i .yes-to) || eqb g (entry s i .no-to))))
     unfolding mark-parts
     parts-flag g =
         let e = entry s i in
         by-test (λ t. getD (cond t (set (set marks (e .yes-to) true) (e .no-to) true) marks) g false ≡ (getD marks g false || (t && (eqb g (e .yes-to) || eqb g (e .no-to))))) (getD marks (i + leaves) false)
         (λ _. two-set marks (e .yes-to) (e .no-to) hy hn g) (λ _. sym (or-false (getD marks g false)))
 
-    pub parts-keep : (g : ℕ) → getD marks g false ≡ true → getD (mark-parts s i marks) g false ≡ true
+    parts-keep : (g : ℕ) → getD marks g false ≡ true → getD (mark-parts s i marks) g false ≡ true
     parts-keep g e = rw (parts-flag g, e) refl
 
     -- a handle that is neither of the two has the flag that it had
-    pub parts-other : (g : ℕ) → g ≢ entry s i .yes-to → g ≢ entry s i .no-to → getD (mark-parts s i marks) g false ≡ getD marks g false
+    parts-other : (g : ℕ) → g ≢ entry s i .yes-to → g ≢ entry s i .no-to → getD (mark-parts s i marks) g false ≡ getD marks g false
     parts-other g y n = parts-flag g ∙ rw (ne-eqb g _ y, ne-eqb g _ n) (by-test (λ t. (getD marks g false || (t && false)) ≡ getD marks g false) (getD marks (i + leaves) false) (λ _. or-false _) (λ _. or-false _))
 
-    pub parts-yes : getD marks (i + leaves) false ≡ true → getD (mark-parts s i marks) (entry s i .yes-to) false ≡ true
+    parts-yes : getD marks (i + leaves) false ≡ true → getD (mark-parts s i marks) (entry s i .yes-to) false ≡ true
     parts-yes e = let y = entry s i .yes-to in parts-flag y ∙ rw (e, eq-eqb y y refl) (or-true (getD marks y false))
 
-    pub parts-no : getD marks (i + leaves) false ≡ true → getD (mark-parts s i marks) (entry s i .no-to) false ≡ true
+    parts-no : getD marks (i + leaves) false ≡ true → getD (mark-parts s i marks) (entry s i .no-to) false ≡ true
     parts-no e = let n = entry s i .no-to in parts-flag n ∙ rw (e, eq-eqb n n refl, or-true) (or-true (getD marks n false))
 
 -- ---- the pass
@@ -72,11 +72,6 @@ OnlyReached s h marks = (g : ℕ) → getD marks g false ≡ true → Reaches s 
 abbrev pub Alike : ℕ → List Bool → List Bool → Type 0
 Alike n a b = (g : ℕ) → g < n → getD a g false ≡ getD b g false
 
-pub down-length : (s : List ℕ) (k : ℕ) (marks : List Bool) → length (marks-down s k marks) ≡ length marks
-unfolding marks-down
-down-length s zero marks = refl
-down-length s (suc k) marks = down-length s k (mark-parts s k marks) ∙ parts-length s k marks
-
 module _ {s : List ℕ} {m : ℕ} (f : Falling s m) where
   module _ (k : ℕ) (marks : List Bool) (h : k < m) (l : k < length marks - leaves) where
     yes-in : entry s k .yes-to < length marks
@@ -88,7 +83,7 @@ module _ {s : List ℕ} {m : ℕ} (f : Falling s m) where
     left-in : k ≤ length (mark-parts s k marks) - leaves
     left-in = omega (arith, parts-length s k marks)
 
-    pub keep-part : (g : ℕ) → getD marks g false ≡ true → getD (mark-parts s k marks) g false ≡ true
+    keep-part : (g : ℕ) → getD marks g false ≡ true → getD (mark-parts s k marks) g false ≡ true
     keep-part = parts-keep s k marks yes-in no-in
 
     -- the flags from the entry's own handle on stay
@@ -104,7 +99,7 @@ module _ {s : List ℕ} {m : ℕ} (f : Falling s m) where
           | no q ↦ let both = c i (omega arith) u was in (keep-part _ (both .0), keep-part _ (both .1))
         ]
 
-  pub down-keep : (k : ℕ) (marks : List Bool) → k ≤ m → k ≤ length marks - leaves → (g : ℕ) → getD marks g false ≡ true → getD (marks-down s k marks) g false ≡ true
+  down-keep : (k : ℕ) (marks : List Bool) → k ≤ m → k ≤ length marks - leaves → (g : ℕ) → getD marks g false ≡ true → getD (marks-down s k marks) g false ≡ true
   unfolding marks-down
   down-keep zero marks h l g e = e
   down-keep (suc k) marks h l g e = down-keep k (mark-parts s k marks) (omega arith) (left-in k marks (omega arith) (omega arith)) g (keep-part k marks (omega arith) (omega arith) g e)
@@ -159,10 +154,6 @@ first-marks h = set (replicate (suc h) false) h true
 pub first-length : (h : ℕ) → length (first-marks h) ≡ suc h
 first-length h = length-set (replicate (suc h) false) h true ∙ length-replicate (suc h) false
 
-pub reachable-length : (s : List ℕ) (h : ℕ) → length (reachable s h) ≡ suc h
-unfolding reachable
-reachable-length s h = down-length s (suc h - leaves) (first-marks h) ∙ first-length h
-
 module _ {limits : Limits} {s : List ℕ} (snd : Sound limits s) (h : ℕ) (l : h < used s + leaves) where
   first-only : OnlyReached s h (first-marks h)
   unfolding OnlyReached
@@ -172,7 +163,7 @@ module _ {limits : Limits} {s : List ℕ} (snd : Sound limits s) (h : ℕ) (l : 
   ]
 
   -- only what is reached is marked
-  pub marked-reached : (g : ℕ) → getD (reachable s h) g false ≡ true → Reaches s h g
+  marked-reached : (g : ℕ) → getD (reachable s h) g false ≡ true → Reaches s h g
   unfolding reachable OnlyReached
   marked-reached = down-only (falling snd) h (suc h - leaves) (first-marks h) (omega arith) (omega (arith, first-length h)) first-only
 

@@ -80,7 +80,7 @@ module _ {s : List ℕ} {handle : ℕ} {marks : List Bool} {rows : List ℕ} {ro
   row-is : getD rows (h - leaves + leaves) 0 ≡ 3 + 2 * marked-before (reachable s handle) (h - leaves)
   row-is = ap (λ x. getD rows x 0) back ∙ w .rows-are h (omega arith) ∙ sym (ap (row-of (reachable s handle)) back) ∙ row-of-entry (reachable s handle) (h - leaves)
 
-  pub can-write : CanWrite s marks rows (h - leaves) room
+  can-write : CanWrite s marks rows (h - leaves) room
   can-write =
       let k = w .handled in
       let snd = sound-says (k .limits) s (k .sound-in) in

@@ -54,7 +54,7 @@ module _ (s : List ℕ) (h : ℕ) where
     later-word k = ap (λ t. getD t (8 + k) 0) (rows-of-other n) ∙ getD-append-add leaf-rows (entries-rows s (reachable s h) entries-to) k 0
 
     -- a word of a marked entry's two rows
-    pub word-of-entry : (i : ℕ) → i < entries-to → getD (reachable s h) (i + leaves) false ≡ true → (t at : ℕ) → t < 8
+    word-of-entry : (i : ℕ) → i < entries-to → getD (reachable s h) (i + leaves) false ≡ true → (t at : ℕ) → t < 8
         → at ≡ 8 + (8 * marked-before (reachable s h) i + t) → getD (written-rows s h) at 0 ≡ getD (entry-rows s (reachable s h) i) t 0
     word-of-entry i l m t at k e = ap (λ x. getD (written-rows s h) x 0) e ∙ later-word (8 * marked-before (reachable s h) i + t) ∙ entry-word (reachable s h) s i entries-to l m t k
 
