@@ -26,7 +26,7 @@ use Rattle.store.proofs.Handles.{leaf-stays, by-handle}
 use Rattle.store.proofs.SoundFacts.{Sound, sound-says, used-fits, used-few}
 use Rattle.store.proofs.SoundList.{sound-question}
 use Rattle.store.proofs.SoundTree.{meaning-entry}
-use Rattle.store.proofs.StoreWords.{list-word}
+use Rattle.store.proofs.StoreWords.{question-words}
 use Rattle.terms.proofs.Cases.{by-test}
 
 -- ---- counts and values
@@ -50,25 +50,21 @@ module _ (sheet : List ℕ) where
 
   -- ---- questions
   module _ (s : List ℕ) (k : ℕ) (can : CanAsk s k sheet) where
-    pub question-words : question s k ≡ equation (term-of (getD s (1 + 2 * k) 0)) (term-of (getD s (1 + 2 * k + 1) 0))
-    question-words =
+    asked-words : question s k ≡ equation (term-of (getD s (1 + 2 * k) 0)) (term-of (getD s (1 + 2 * k + 1) 0))
+    asked-words =
         let a = can .some in
-        let b = can .listed in
-        let l : 3 + 2 * (k - 1) ≡ 1 + 2 * k = omega arith in
-        let r : 3 + (2 * (k - 1) + 1) ≡ 1 + 2 * k + 1 = omega arith in
-        ap₂ (λ x y. equation (term-of x) (term-of y))
-        (list-word s (2 * (k - 1)) (omega arith) ∙ ap (λ x. getD s x 0) l)
-        (list-word s (2 * (k - 1) + 1) (omega arith) ∙ ap (λ x. getD s x 0) r)
+        let e : 3 + 2 * (k - 1) ≡ 1 + 2 * k = omega arith in
+        question-words s k a (can .listed) ∙ ap (λ x. equation (term-of (getD s x 0)) (term-of (getD s (x + 1) 0))) e
 
     pub left-has : term-of (getD s (1 + 2 * k) 0) .field .0 ≤ length sheet
-    left-has = subst (λ (q : Equation). q .left .field .0 ≤ length sheet) question-words (can .left-in)
+    left-has = subst (λ (q : Equation). q .left .field .0 ≤ length sheet) asked-words (can .left-in)
 
     pub right-has : term-of (getD s (1 + 2 * k + 1) 0) .field .0 ≤ length sheet
-    right-has = subst (λ (q : Equation). q .right .field .0 ≤ length sheet) question-words (can .right-in)
+    right-has = subst (λ (q : Equation). q .right .field .0 ≤ length sheet) asked-words (can .right-in)
 
     pub truth-is : {a b : ℕ} → a ≡ value (sheet-counts sheet) (term-of (getD s (1 + 2 * k) 0)) → b ≡ value (sheet-counts sheet) (term-of (getD s (1 + 2 * k + 1) 0))
         → eqb a b ≡ truth (sheet-counts sheet) (question s k)
-    truth-is ea eb = ap₂ eqb ea eb ∙ sym (ap (truth (sheet-counts sheet)) question-words)
+    truth-is ea eb = ap₂ eqb ea eb ∙ sym (ap (truth (sheet-counts sheet)) asked-words)
 
 -- ---- handles
 module _ {s : List ℕ} {h : ℕ} {sheet : List ℕ} (r : Readable s h sheet) (l : leaves ≤ h) where

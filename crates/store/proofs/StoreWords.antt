@@ -23,8 +23,15 @@ pub record Agree (s s′ : List ℕ) (m : ℕ) : Type 0 where
   pub word : (k : ℕ) → k < entries-start s + 3 * m → k ≢ 2 → getD s′ k 0 ≡ getD s k 0
 
 -- a word of the list, as a word of the store
-pub list-word : (s : List ℕ) (k : ℕ) → k < 2 * question-count s → getD (list-words s) k 0 ≡ getD s (heading-length + k) 0
+list-word : (s : List ℕ) (k : ℕ) → k < 2 * question-count s → getD (list-words s) k 0 ≡ getD s (heading-length + k) 0
 list-word s k h = getD-take (2 * question-count s) (drop heading-length s) k 0 h ∙ getD-drop heading-length s k 0
+
+-- a question's two words stand in the list
+pub question-words : (s : List ℕ) (k : ℕ) → 1 ≤ k → k ≤ question-count s
+    → question s k ≡ equation (term-of (getD s (heading-length + 2 * (k - 1)) 0)) (term-of (getD s (heading-length + 2 * (k - 1) + 1) 0))
+question-words s k h l =
+    let r : heading-length + (2 * (k - 1) + 1) ≡ heading-length + 2 * (k - 1) + 1 = omega arith in
+    ap₂ (λ x y. equation (term-of x) (term-of y)) (list-word s (2 * (k - 1)) (omega arith)) (list-word s (2 * (k - 1) + 1) (omega arith) ∙ ap (λ x. getD s x 0) r)
 
 list-end : (s : List ℕ) (k : ℕ) → 2 * question-count s ≤ k → getD (list-words s) k 0 ≡ 0
 list-end s k h = List·getD-eq-default (list-words s) 0 (omega (arith, length-take (2 * question-count s) (drop heading-length s)))

@@ -1,18 +1,19 @@
 -- "Write back: a rule table for a handle. Handle 0: the row of kind 0. Handle 1: rows of kinds 0 and 1. Otherwise those two, then for each
 -- entry reachable from the handle, ascending, an equation row and a row of kind 5. The answer is the row count; words after the rows are
 -- unchanged."
-use Prim.Native.Nat.{ℕ, zero, suc, _+_, _-_, _*_}
+use Prim.Native.Nat.{ℕ, zero, suc, _+_, _-_, _*_, _<_}
+use mathlib.Core.Path.{_≡_}
 use mathlib.Core.Bool.{Bool, true, false, cond}
 use mathlib.Core.List.{List, [], _∷_, _++_}
 use lib.Dec.{eqb, ltb}
 use lib.ListN.{length, getD, set, drop, replicate}
 use Rattle.store.specs.declared.limits.Limits.{Limits}
-use Rattle.store.specs.Layout.{used, heading-length, entry, leaves}
+use Rattle.store.specs.Layout.{question-count, used, heading-length, entry, leaves}
 use Rattle.store.specs.Outcome.{Outcome, outcome}
 use Rattle.store.specs.Sound.{sound}
-use Rattle.tables.specs.declared.writing.Written.{Written}
-use Rattle.tables.specs.declared.writing.Written.the-variants.{Rows, NotSound, NoHandle, TooManyRows, TooShort}
-use Rattle.tables.specs.Rows.{row-length}
+use Rattle.tables.specs.declared.answer.Written.{Written}
+use Rattle.tables.specs.declared.answer.Written.the-variants.{Rows, NotSound, NoHandle, TooManyRows, TooShort}
+use Rattle.tables.specs.Rows.{Row, row-length}
 
 -- A flag for each handle: the i-th entry, if it is marked, marks its two handles.
 unfoldable pub mark-parts : List ℕ → ℕ → List Bool → List Bool
@@ -26,6 +27,12 @@ marks-down s (suc k) marks = marks-down s k (mark-parts s k marks)
 -- the handles reachable from a handle: handles named are smaller than their entry's own, so one pass from the handle down finds them
 unfoldable pub reachable : List ℕ → ℕ → List Bool
 reachable s handle = marks-down s (suc handle - leaves) (set (replicate (suc handle) false) handle true)
+
+-- What that pass is to find: the handle itself, and the yes handle and the no handle of each entry found.
+pub data Reaches (s : List ℕ) (handle : ℕ) : ℕ → Type 0 where
+  itself : Reaches s handle handle
+  by-yes : (i : ℕ) → Reaches s handle (i + leaves) → Reaches s handle (entry s i .yes-to)
+  by-no : (i : ℕ) → Reaches s handle (i + leaves) → Reaches s handle (entry s i .no-to)
 
 -- how many of the first k entries are marked
 unfoldable pub marked-before : List Bool → ℕ → ℕ
@@ -57,6 +64,15 @@ written-rows s handle =
 
 abbrev pub written-count : List ℕ → ℕ → ℕ
 written-count s handle = cond (eqb handle 0) 1 (2 + 2 * marked-before (reachable s handle) (suc handle - leaves))
+
+-- A row as written back is one that build does not refuse with 34, 35 or 36: no unused column is nonzero, references go to lower rows, and
+-- an equation is a question of the list.
+pub data WellFormed (s : List ℕ) (i : ℕ) (r : Row) : Type 0 where
+  is-never : r .kind ≡ 0 → r .a ≡ 0 → r .b ≡ 0 → r .c ≡ 0 → WellFormed s i r
+  is-always : r .kind ≡ 1 → r .a ≡ 0 → r .b ≡ 0 → r .c ≡ 0 → WellFormed s i r
+  is-question : (k : ℕ) → k < question-count s → r .kind ≡ 2 → r .a ≡ getD s (heading-length + 2 * k) 0 → r .b ≡ getD s (heading-length + 2 * k + 1) 0
+      → r .c ≡ 0 → WellFormed s i r
+  is-choice : r .kind ≡ 5 → r .a < i → r .b < i → r .c < i → WellFormed s i r
 
 -- "53, write-back above 256 rows"
 abbrev pub most-rows : ℕ

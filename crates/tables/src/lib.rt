@@ -1,4 +1,11 @@
 // Rule tables: what they mean, and writing a handle back as one.
+mod answer;
+mod marking;
+mod rows;
 mod writing;
 
-pub use writing::Written;
+pub use answer::Written;
+pub use answer::written_number;
+pub use answer::written_result;
+pub use writing::write_back;
+pub use writing::write_back_within;
