@@ -5,6 +5,7 @@ pub mod SoundTree
 pub mod TreePaths
 pub mod StoreWords
 pub mod OpenAccepts
+pub mod ListQuestions
 pub mod OpenedWords
 pub mod OpenSound
 pub mod OpenWays

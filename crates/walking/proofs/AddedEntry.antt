@@ -1,6 +1,6 @@
 -- An entry written after the last leaves all words before it as they were, but for the number of entries used; so the words stay fit for a walk.
 use Prim.Native.Nat.{ℕ, _+_, _*_, _≤_, _<_}
-use mathlib.Core.Path.{_≡_, refl, sym, ap, subst, _∙_}
+use mathlib.Core.Path.{_≡_, sym, ap, subst, _∙_}
 use mathlib.Core.Logic.{_≢_}
 use mathlib.Core.List.{List}
 use native.Mathlib.Omega.{arith}
@@ -57,11 +57,11 @@ module _ (s : List ℕ) (e : Entry) where
     with-entry-new =
         let start : entries-start (with-entry s e) + 3 * used s ≡ at = omega (arith, questions-agree with-entry-agrees) in
         let q : entry (with-entry s e) (used s) .question ≡ e .question = word-at _ at _ start (past-used at _ (λ d. omega arith)
-            (getD-set-other two (at + 2) at (e .no-to) 0 (λ d. omega arith) ∙ getD-set-other one (at + 1) at (e .yes-to) 0 (λ d. omega arith) ∙ getD-set-same s at (e .question) 0 (omega arith))) in
+        (getD-set-other two (at + 2) at (e .no-to) 0 (λ d. omega arith) ∙ getD-set-other one (at + 1) at (e .yes-to) 0 (λ d. omega arith) ∙ getD-set-same s at (e .question) 0 (omega arith))) in
         let y : entry (with-entry s e) (used s) .yes-to ≡ e .yes-to = word-at _ (at + 1) _ (ap (λ (x : ℕ). x + 1) start) (past-used (at + 1) _ (λ d. omega arith)
-            (getD-set-other two (at + 2) (at + 1) (e .no-to) 0 (λ d. omega arith) ∙ getD-set-same one (at + 1) (e .yes-to) 0 (simp length-set (omega arith)))) in
+        (getD-set-other two (at + 2) (at + 1) (e .no-to) 0 (λ d. omega arith) ∙ getD-set-same one (at + 1) (e .yes-to) 0 (simp length-set (omega arith)))) in
         let n : entry (with-entry s e) (used s) .no-to ≡ e .no-to = word-at _ (at + 2) _ (ap (λ (x : ℕ). x + 2) start) (past-used (at + 2) _ (λ d. omega arith)
-            (getD-set-same two (at + 2) (e .no-to) 0 (simp length-set (omega arith)))) in
+        (getD-set-same two (at + 2) (e .no-to) 0 (simp length-set (omega arith)))) in
         λ i. record { question = q i; yes-to = y i; no-to = n i }
 
 -- what a walk relies on in an entry, the i-th of a store with so many questions

@@ -5,11 +5,10 @@ use mathlib.Core.Logic.{_≢_}
 use mathlib.Core.List.{List}
 use native.Mathlib.Omega.{arith}
 use borrow.Author.Tests.{eq-eqb, ne-eqb}
-use lib.Dec.{eqb}
 use Rattle.facts.specs.declared.decision.Decision.{Decision}
 use Rattle.facts.specs.declared.decision.Decision.the-variants.{Always, Never, Open}
 use Rattle.facts.specs.declared.record.Facts.{Facts}
-use Rattle.facts.specs.Record.{state, most-noes, most-steps, Ready, Holds}
+use Rattle.facts.specs.Record.{state, Ready}
 use Rattle.facts.specs.State.{State, decide}
 use Rattle.store.specs.Layout.{question, used, entry, leaves}
 use Rattle.terms.specs.declared.term.Equation.{Equation}
@@ -19,7 +18,7 @@ use Rattle.facts.proofs.HeldFacts.{holds-ready}
 use Rattle.store.proofs.Handles.{Falling, tree-entry}
 use Rattle.store.proofs.SoundTree.{tree-leaf}
 
-pub falling : {s : List ℕ} → Walkable s → Falling s (used s)
+falling : {s : List ℕ} → Walkable s → Falling s (used s)
 falling w = record { yes-below = w .yes-below; no-below = w .no-below }
 
 -- ---- the value at an entry

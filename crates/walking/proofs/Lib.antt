@@ -7,3 +7,4 @@ pub mod AddedEntry
 pub mod WalkKeeps
 pub mod WalkCalls
 pub mod WalkWays
+pub mod SoundWalkable

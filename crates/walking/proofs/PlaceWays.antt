@@ -1,13 +1,13 @@
 -- What placing an entry is on each way through the code: the tests on that way decide its own tests.
-use Prim.Native.Nat.{ℕ, zero, suc, _+_, _-_, _*_, _≤_, _<_}
-use mathlib.Core.Path.{_≡_, refl, sym, ap, _∙_}
+use Prim.Native.Nat.{ℕ, suc, _+_, _-_, _*_, _≤_, _<_}
+use mathlib.Core.Path.{_≡_, sym, ap, _∙_}
 use mathlib.Core.Logic.{_≢_}
-use mathlib.Core.Bool.{Bool, true, false, and-false}
+use mathlib.Core.Bool.{Bool, true, false}
 use mathlib.Core.List.{List}
 use native.Mathlib.Omega.{arith}
 use borrow.Author.Tests.{eq-eqb, ne-eqb, lt-ltb, le-ltb}
 use lib.Dec.{eqb}
-use lib.ListN.{getD, set}
+use lib.ListN.{set}
 use Rattle.diagram.specs.declared.placing.Placed.{Placed}
 use Rattle.diagram.specs.declared.placing.Placed.the-variants.{At, Full}
 use Rattle.diagram.specs.Insert.{an-entry, find-entry, with-entry, add-entry, place-entry}

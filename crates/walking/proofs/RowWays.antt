@@ -1,6 +1,6 @@
 -- What is said of each row stands at its number, and rows not reached yet are never, in the numbers as in the list of values; so each turn
 -- adds the value of one row.
-use Prim.Native.Nat.{ℕ, zero, suc, _+_, _-_, _*_, _/_, _≤_, _<_}
+use Prim.Native.Nat.{ℕ, zero, suc, _+_, _-_, _/_, _≤_, _<_}
 use mathlib.Core.Path.{_≡_, refl, sym, ap, subst, _∙_}
 use mathlib.Core.Logic.{_≢_}
 use mathlib.Core.Bool.{true, false, cond}
@@ -8,7 +8,7 @@ use mathlib.Core.List.{List, [], _∷_, _++_}
 use native.Mathlib.Omega.{arith}
 use native.Mathlib.Decide.{ℕ-discrete}
 use native.Mathlib.Numerals.{add-one}
-use borrow.Author.Tests.{eq-eqb, ne-eqb}
+use borrow.Author.Tests.{ne-eqb}
 use lib.Dec.{eqb}
 use lib.ListN.{length, getD, set, replicate, length-append, length-set, length-replicate}
 use lib.Seq.{getD-set-same, getD-set-other}
@@ -17,11 +17,11 @@ use Rattle.facts.specs.declared.decision.Decision.the-variants.{Always, Never, 
 use Rattle.facts.specs.declared.record.Facts.{Facts}
 use Rattle.facts.specs.Record.{state, Ready}
 use Rattle.facts.specs.State.{State, decide}
-use Rattle.tables.specs.Rows.{Row, row, row-length, row-count}
+use Rattle.tables.specs.Rows.{Row, row, row-count}
 use Rattle.terms.specs.declared.term.Term.{Term}
 use Rattle.terms.specs.Words.{equation, term-of}
 use Rattle.walking.specs.Parts.{value-number, said}
-use Rattle.walking.specs.Ready.{most-rows, GoodRow, GoodTable, AsksTable, AsksRow}
+use Rattle.walking.specs.Ready.{most-rows, GoodRow, AsksTable, AsksRow}
 use Rattle.walking.specs.Value.{not-value, agreed, and-value, choose-value, row-value, row-values, table-value}
 use Rattle.facts.proofs.HeldFacts.{holds-ready}
 
@@ -147,6 +147,7 @@ said-none table f = record {
   long = length-replicate {A = ℕ} most-rows 0;
   says = λ j. number-says (replicate most-rows 0) j Never (zeros most-rows j);
 }
+
 module _ {table : List ℕ} {f : Facts} (asks : AsksTable table f) {values : List ℕ} {i : ℕ} (sr : SaidRows table f values i) where
   pub row-ready : {rows : ℕ} → rows ≡ length table / 4 → i < rows → AsksRow table i f
   row-ready e h = record { good-table = asks .good-table; row-in = omega arith; holds = asks .holds }

@@ -1,12 +1,12 @@
 -- Each call in the walk finds what it asks for: the question is one of the list, the facts hold one answer more at most, and the words that
 -- the yes part leaves are fit for the no part.
-use Prim.Native.Nat.{ℕ, suc, _+_, _-_, _*_, _≤_, _<_, _^_}
-use mathlib.Core.Path.{_≡_, refl, sym, ap, subst, _∙_}
+use Prim.Native.Nat.{ℕ, _+_, _-_, _≤_, _<_, _^_}
+use mathlib.Core.Path.{_≡_, refl, sym, subst, _∙_}
 use mathlib.Core.Logic.{_≢_}
 use mathlib.Core.List.{List}
 use native.Mathlib.Omega.{arith}
 use Rattle.diagram.specs.declared.placing.Placed.{Placed}
-use Rattle.diagram.specs.declared.placing.Placed.the-variants.{At, Full}
+use Rattle.facts.specs.declared.decision.Decision.{Decision}
 use Rattle.facts.specs.declared.decision.Decision.the-variants.{Open}
 use Rattle.facts.specs.declared.record.Facts.{Facts}
 use Rattle.facts.specs.declared.working.Asked.{Asked}
@@ -14,7 +14,7 @@ use Rattle.facts.specs.Record.{state, most-noes, most-steps, Small, Holds, Read
 use Rattle.facts.specs.State.{State, no-to, decide}
 use Rattle.store.specs.declared.limits.Limits.{Limits}
 use Rattle.store.specs.Layout.{question-count, used, question}
-use Rattle.store.specs.Outcome.{Outcome, outcome}
+use Rattle.store.specs.Outcome.{outcome}
 use Rattle.terms.specs.declared.term.Equation.{Equation}
 use Rattle.walking.specs.declared.subject.Subject.{Subject}
 use Rattle.walking.specs.declared.subject.Subject.the-variants.{Table, Choice}
@@ -75,7 +75,9 @@ module _ {limits : Limits} {table : List ℕ} {subject : Subject} {s : List ℕ}
 -- the value and the question are open
 pub record Asking (limits : Limits) (table : List ℕ) (subject : Subject) (s : List ℕ) (f : Facts) (k left : ℕ) (q : Equation) (a : Asked) : Type 0 where
   pub can : CanWalk limits table subject s f k left
-  pub value-open : subject-value table subject s (state f) ≡ Open
+  pub value : Decision
+  pub value-is : value ≡ subject-value table subject s (state f)
+  pub value-open : value ≡ Open
   pub more : left ≢ 0
   pub question-is : q ≡ question s k
   pub asked : AskedOf f q a

@@ -1,6 +1,6 @@
 -- The words that a walk leaves are fit for another: each entry that it adds asks a question of the list and names handles that stand already.
 use Prim.Native.Nat.{ℕ, zero, suc, _+_, _*_, _≤_, _<_}
-use mathlib.Core.Path.{_≡_, refl, sym, ap, _∙_}
+use mathlib.Core.Path.{_≡_, refl, ap, _∙_}
 use mathlib.Core.Bool.{cond}
 use mathlib.Core.List.{List}
 use native.Mathlib.Omega.{arith}
@@ -88,7 +88,7 @@ module _ (limits : Limits) (few : limits .entries ≤ most-entries) {s : List �
   place-goes = by-lt (λ t. GoesOn s (cond t (outcome (At (find-entry s (an-entry k y n) (used s) 0 + leaves)) s) (add-entry limits s (an-entry k y n))))
       (find-entry s (an-entry k y n) (used s) 0) (used s) (λ l. stays-at w _ (omega arith)) (λ _. add-goes)
 
-  pub parts-go : GoesOn s (place-parts limits k y n s)
+  parts-go : GoesOn s (place-parts limits k y n s)
   unfolding place-parts
   parts-go = by-eq (λ t. GoesOn s (cond t (outcome (At y) s) (place-entry limits s (an-entry k y n)))) y n (λ _. stays-at w y yes-in) (λ _. place-goes)
 

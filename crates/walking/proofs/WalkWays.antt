@@ -1,6 +1,6 @@
 -- What the walk is on each way through the code: the value, the decision and the answers on that way decide its own tests.
-use Prim.Native.Nat.{ℕ, zero, suc, _+_, _-_, _≤_, _<_}
-use mathlib.Core.Path.{_≡_, refl, sym, ap, subst, _∙_}
+use Prim.Native.Nat.{ℕ, suc, _+_, _-_}
+use mathlib.Core.Path.{_≡_, sym, ap, _∙_}
 use mathlib.Core.Logic.{_≢_}
 use mathlib.Core.List.{List, [], _∷_}
 use native.Mathlib.Omega.{arith}
@@ -21,7 +21,6 @@ use Rattle.store.specs.Outcome.{Outcome, outcome}
 use Rattle.terms.specs.declared.term.Equation.{Equation}
 use Rattle.walking.specs.declared.subject.Subject.{Subject}
 use Rattle.walking.specs.Parts.{leaf-of}
-use Rattle.walking.specs.Ready.{CanWalk}
 use Rattle.walking.specs.Value.{subject-value}
 use Rattle.walking.specs.Walk.{place-parts, walk}
 use Rattle.facts.proofs.decision.Decision.{the-type}
@@ -67,8 +66,8 @@ more-left : (left : ℕ) → left ≢ 0 → left ≡ suc (left - 1)
 more-left left n = omega arith
 
 -- ---- the ways through the code
-module _ {limits : Limits} {table : List ℕ} {subject : Subject} {s : List ℕ} {f : Facts} {k left : ℕ} (m : CanWalk limits table subject s f k left)
-    {v : Decision} (ev : v ≡ subject-value table subject s (state f)) where
+module _ (limits : Limits) (table : List ℕ) (subject : Subject) (s : List ℕ) (f : Facts) (k left : ℕ) {v : Decision}
+    (ev : v ≡ subject-value table subject s (state f)) where
   pub on-last : {p : Placed} → left ≡ 0 → p ≡ leaf-of v → outcome p s ≡ walk limits table subject left k (state f) s
   on-last e ep = rw (e, ep) (last-leaf limits table subject k (state f) s v ev)
 
@@ -95,7 +94,7 @@ module _ {limits : Limits} {table : List ℕ} {subject : Subject} {s : List ℕ}
   asks =
       ap (λ st. then-place (walk limits table subject (left - 1) (k + 1) st s) (then-yes q)) (x .asked .yes-is (x .is-open))
       ∙ ap (λ p. then-place (walk limits table subject (left - 1) (k + 1) (yes-to (state f) p) s) (then-yes p)) (x .question-is)
-      ∙ sym (open-asks limits table subject k (state f) s (left - 1) (x .value-open) (ap (decide (state f)) (sym (x .question-is)) ∙ sym (x .asked .decision-is) ∙ x .is-open))
+      ∙ sym (open-asks limits table subject k (state f) s (left - 1) (sym (x .value-is) ∙ x .value-open) (ap (decide (state f)) (sym (x .question-is)) ∙ sym (x .asked .decision-is) ∙ x .is-open))
       ∙ ap (λ (l : ℕ). walk limits table subject l k (state f) s) (sym (more-left left (x .more)))
 
   module _ {r : Placed} {s₁ : List ℕ} (e₁ : outcome r s₁ ≡ walk limits table subject (left - 1) (k + 1) (state (a .yes)) s) where

@@ -17,7 +17,11 @@ pub fn value(table: &[u32], subject: Subject, s: &[u32], f: Facts) -> Decision
 {
     match subject {
         Subject::Table => table_value(table, f),
-        Subject::Choice { first, second, third } => choose_value(
+        Subject::Choice {
+            first,
+            second,
+            third,
+        } => choose_value(
             handle_value(s, first, f),
             handle_value(s, second, f),
             handle_value(s, third, f),

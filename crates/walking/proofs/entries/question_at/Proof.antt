@@ -1,58 +1,42 @@
 -- `question_at` meets its contract: it reads the two words of the question.
-use Rattle.walking.proofs.ReadWays.{reads-question}
 use borrow.Author.Needs.{needs}
+use Rattle.walking.proofs.ReadWays.{reads-question}
 use Rattle.walking.proofs.entries.question_at.Statement.{statement}
 use Rattle.walking.proofs.entries.question_at.Tie as tie
-use Rattle.walking.proofs.entries.question_at.Reads as reads
-use Rattle.walking.proofs.entries.question_at.Lts as lts
-use Rattle.terms.proofs.term_of.Reads as term-of-reads
-use Rattle.walking.proofs.entries.wide.Reads as wide-reads
 
--- src/entries.rt:25:29
 wide-requires : tie.Need-wide-requires
 wide-requires c κs = search needs
 
--- src/entries.rt:25:29
 sub-at : tie.Need-sub-at
 sub-at c = search needs
 
--- src/entries.rt:25:24
 mul-at : tie.Need-mul-at
 mul-at c = search needs
 
--- src/entries.rt:25:14
 add-at : tie.Need-add-at
 add-at c = search needs
 
--- src/entries.rt:27:23
 mul-term-of : tie.Need-mul-term-of
 mul-term-of c = search needs
 
--- src/entries.rt:27:23
 shared-slice-read-term-of : tie.Need-shared-slice-read-term-of
 shared-slice-read-term-of c = search needs
 
--- src/entries.rt:27:15
 term-of-requires : tie.Need-term-of-requires
 term-of-requires c κs = search needs
 
--- src/entries.rt:28:26
 add-term-of : tie.Need-add-term-of
 add-term-of c = search needs
 
--- src/entries.rt:28:24
 mul-term-of-2 : tie.Need-mul-term-of-2
 mul-term-of-2 c = search needs
 
--- src/entries.rt:28:24
 shared-slice-read-term-of-2 : tie.Need-shared-slice-read-term-of-2
 shared-slice-read-term-of-2 c = search needs
 
--- src/entries.rt:28:16
 term-of-requires-2 : tie.Need-term-of-requires-2
 term-of-requires-2 c κs = search needs
 
--- src/entries.rt:21:1
 returns : tie.Need-returns
 returns c = search (needs, reads-question)
 

@@ -1,72 +1,51 @@
 -- `place_entry` meets its contract: its two tests are those of the definition.
-use Rattle.walking.proofs.PlaceWays.{placed-again, placed-new, placed-nowhere}
 use borrow.Author.Needs.{needs}
+use Rattle.walking.proofs.PlaceWays.{placed-again, placed-new, placed-nowhere}
 use Rattle.walking.proofs.placing.place_entry.Statement.{statement}
 use Rattle.walking.proofs.placing.place_entry.Tie as tie
-use Rattle.walking.proofs.placing.place_entry.Reads as reads
-use Rattle.walking.proofs.placing.place_entry.Lts as lts
-use Rattle.walking.proofs.entries.wide.Reads as wide-reads
-use Rattle.walking.proofs.placing.append.Reads as append-reads
-use Rattle.walking.proofs.placing.find_entry.Reads as find-entry-reads
-use Rattle.walking.proofs.placing.room.Reads as room-reads
 
--- src/placing.rt:77:21
 slice-read-wide : tie.Need-slice-read-wide
 slice-read-wide c = search needs
 
--- src/placing.rt:77:9
 wide-requires : tie.Need-wide-requires
 wide-requires c κs = search needs
 
--- src/placing.rt:78:9
 find-entry-requires : tie.Need-find-entry-requires
 find-entry-requires c κs = search needs
 
--- src/placing.rt:80:27
 cast-t13 : tie.Need-cast-t13
 cast-t13 c = search needs
 
--- src/placing.rt:80:27
 add-t14 : tie.Need-add-t14
 add-t14 c = search needs
 
--- src/placing.rt:80:9
 same-length : tie.Need-same-length
 same-length c = search needs
 
--- src/placing.rt:80:9
 returns : tie.Need-returns
 returns c = search (needs, placed-again)
 
--- src/placing.rt:82:15
 room-requires : tie.Need-room-requires
 room-requires c κs = search needs
 
--- src/placing.rt:83:9
 append-requires : tie.Need-append-requires
 append-requires c κs = search needs
 
--- src/placing.rt:84:27
 cast-t21 : tie.Need-cast-t21
 cast-t21 c = search needs
 
--- src/placing.rt:84:27
 add-t22 : tie.Need-add-t22
 add-t22 c = search needs
 
--- src/placing.rt:84:9
 same-length-2 : tie.Need-same-length-2
 same-length-2 c = search needs
 
--- src/placing.rt:84:9
 returns-2 : tie.Need-returns-2
 returns-2 c = search (needs, placed-new)
 
--- src/placing.rt:73:1
 same-length-3 : tie.Need-same-length-3
 same-length-3 c = search needs
 
--- src/placing.rt:73:1
 returns-3 : tie.Need-returns-3
 returns-3 c =
     let e = c .before .before .before in

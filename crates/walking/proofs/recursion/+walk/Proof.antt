@@ -1,12 +1,11 @@
 -- `walk` meets its contract: each way through it is a line of the definition, and the number of questions left falls.
-use borrow.Author.Needs.{needs}
-use native.Mathlib.Omega.{arith}
-use Rattle.walking.proofs.WalkCalls.{Asking, can-value, next-fits, can-question, can-ask, can-skip, can-yes, can-answer-no, can-no, can-place}
-use Rattle.walking.proofs.WalkWays.{on-last, on-known, on-skip, on-yes-full, on-no-full, on-parts}
 use Prim.Native.Nat.{ℕ, _<_}
-use mathlib.Core.Path.{sym, _∙_}
+use native.Mathlib.Omega.{arith}
+use borrow.Author.Needs.{needs}
 use borrow.Fn.Kinds.{In}
 use borrow.Fn.PlainCycle.{Measures, is, falls, and}
+use Rattle.walking.proofs.WalkCalls.{Asking, can-value, next-fits, can-question, can-ask, can-skip, can-yes, can-answer-no, can-no, can-place}
+use Rattle.walking.proofs.WalkWays.{on-last, on-known, on-skip, on-yes-full, on-no-full, on-parts}
 use Rattle.walking.proofs.recursion.walk.Reads as walk
 use Rattle.walking.proofs.recursion.walk.Kinds as walk-kinds
 use Rattle.walking.proofs.recursion.+walk.Lts-walk as walk-lts
@@ -45,7 +44,9 @@ asking t o =
     let w = v .before .before in
     record {
       can = begin t o .pre .1;
-      value-open = sym (w .before .value .ensures) ∙ v .enum-told .given .1;
+      value = w .before .value .result;
+      value-is = w .before .value .ensures;
+      value-open = v .enum-told .given .1;
       more = w .if1 .left;
       question-is = e .before .question-at .ensures;
       asked = e .ask .ensures;

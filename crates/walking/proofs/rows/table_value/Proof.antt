@@ -1,14 +1,9 @@
 -- `table_value` meets its contract: each turn says what the next row is, and the last row is the rule.
+use Prim.Native.Nat.{_-_}
 use borrow.Author.Needs.{needs}
 use Rattle.walking.proofs.RowWays.{SaidRows, said-none, row-ready, said-next, said-all}
-use Prim.Native.Nat.{_-_}
 use Rattle.walking.proofs.rows.table_value.Statement.{statement}
 use Rattle.walking.proofs.rows.table_value.Tie as tie
-use Rattle.walking.proofs.rows.table_value.Reads as reads
-use Rattle.walking.proofs.rows.table_value.Lts as lts
-use Rattle.walking.proofs.rows.row_value.Reads as row-value-reads
-use Rattle.walking.proofs.rows.said_of.Reads as said-of-reads
-use Rattle.walking.proofs.rows.value_number.Reads as value-number-reads
 
 abbrev Inv-loop : tie.InvT-loop
 Inv-loop table f values₀ rows i₀ values i = SaidRows table f values i
@@ -16,47 +11,36 @@ Inv-loop table f values₀ rows i₀ values i = SaidRows table f values i
 abbrev μ-loop : tie.MeasureT-loop
 μ-loop table f values₀ rows i₀ values i = rows - i
 
--- src/rows.rt:88:5
 loop-holds : tie.Need-loop-holds Inv-loop μ-loop
 loop-holds c = search (needs, said-none)
 
--- src/rows.rt:89:34
 row-value-requires : tie.Need-row-value-requires Inv-loop μ-loop
 row-value-requires c κs = search (needs, row-ready)
 
--- src/rows.rt:89:21
 value-number-requires : tie.Need-value-number-requires Inv-loop μ-loop
 value-number-requires c κs = search needs
 
--- src/rows.rt:89:9
 array-write-values : tie.Need-array-write-values Inv-loop μ-loop
 array-write-values c = search needs
 
--- src/rows.rt:90:9
 add-i : tie.Need-add-i Inv-loop μ-loop
 add-i c = search needs
 
--- src/rows.rt:88:5
 loop-less : tie.Need-loop-less Inv-loop μ-loop
 loop-less c = search needs
 
--- src/rows.rt:88:5
 loop-again : tie.Need-loop-again Inv-loop μ-loop
 loop-again c = search (needs, said-next)
 
--- src/rows.rt:92:23
 sub-said-of : tie.Need-sub-said-of Inv-loop μ-loop
 sub-said-of c = search needs
 
--- src/rows.rt:92:22
 cast-said-of : tie.Need-cast-said-of Inv-loop μ-loop
 cast-said-of c = search needs
 
--- src/rows.rt:92:5
 said-of-requires : tie.Need-said-of-requires Inv-loop μ-loop
 said-of-requires c κs = search needs
 
--- src/rows.rt:81:1
 returns : tie.Need-returns Inv-loop μ-loop
 returns c = search (needs, said-all)
 
