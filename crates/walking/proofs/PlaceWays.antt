@@ -1,5 +1,5 @@
 -- What placing an entry is on each way through the code: the tests on that way decide its own tests.
-use Prim.Native.Nat.{ℕ, suc, _+_, _-_, _*_, _≤_, _<_}
+use Prim.Native.Nat.{ℕ, _+_, _-_, _*_, _≤_, _<_}
 use mathlib.Core.Path.{_≡_, sym, ap, _∙_}
 use mathlib.Core.Logic.{_≢_}
 use mathlib.Core.Bool.{Bool, true, false}
@@ -16,6 +16,7 @@ use Rattle.store.specs.Layout.{Entry, used, entries-start, entry, leaves, room}
 use Rattle.store.specs.Outcome.{Outcome, outcome}
 use Rattle.store.specs.Sound.{same-entry}
 use Rattle.walking.specs.Walk.{place-parts}
+use Rattle.store.proofs.OpenWays.{one-less, none-left}
 
 -- ---- one entry
 module _ (s : List ℕ) (i k y n : ℕ) {a : ℕ} (ea : a ≡ entry s i .question) where
@@ -30,12 +31,6 @@ module _ (s : List ℕ) (i k y n : ℕ) {a : ℕ} (ea : a ≡ entry s i .questio
     same-no e′ ec = rw (← ea, ← eb, ← ec, eq-eqb a k e, eq-eqb b y e′)
 
 -- ---- the scan
-one-less : (n i : ℕ) → i < n → n - i ≡ suc (n - (i + 1))
-one-less n i h = omega arith
-
-none-left : (n i : ℕ) → n ≤ i → n - i ≡ 0
-none-left n i h = omega arith
-
 -- the entries before the i-th are others
 pub record Scanned (s : List ℕ) (e : Entry) (i : ℕ) : Type 0 where
   pub up-to : i ≤ used s

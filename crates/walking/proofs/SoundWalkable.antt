@@ -1,14 +1,20 @@
--- A sound store is fit for a walk: what a walk relies on is part of what the rules of a sound store say.
+-- A sound store is fit for a walk, since what a walk relies on is part of what the rules of a sound store say; so a walk over all questions can
+-- begin with no facts.
 use Prim.Native.Nat.{ℕ, _≤_}
 use mathlib.Core.Path.{_≡_}
 use mathlib.Core.Bool.{true}
 use mathlib.Core.List.{List}
 use native.Mathlib.Omega.{arith}
-use Rattle.facts.specs.Record.{last-field, most-noes, most-steps}
+use Rattle.facts.specs.declared.record.Facts.{Facts}
+use Rattle.facts.specs.Record.{state, last-field, most-noes, most-steps}
+use Rattle.facts.specs.State.{start}
 use Rattle.store.specs.declared.limits.Limits.{Limits}
+use Rattle.store.specs.Layout.{question-count}
 use Rattle.store.specs.Limits.{store-limits}
 use Rattle.store.specs.Sound.{sound}
-use Rattle.walking.specs.Ready.{most-entries, Walkable}
+use Rattle.walking.specs.declared.subject.Subject.{Subject}
+use Rattle.walking.specs.Ready.{most-entries, Walkable, Named, CanWalk}
+use Rattle.facts.proofs.HeldFacts.{holds-none}
 use Rattle.store.proofs.ListQuestions.{question-left, question-right}
 use Rattle.store.proofs.SoundFacts.{sound-says, used-fits, used-few}
 
@@ -43,3 +49,15 @@ sound-walkable limits s fit t =
       yes-below = λ i h. snd .entry-kept i h .yes-below;
       no-below = λ i h. snd .entry-kept i h .no-below;
     }
+
+-- "start with no facts"
+pub can-begin : {limits : Limits} (table : List ℕ) (subject : Subject) (s : List ℕ) {f : Facts} → FitLimits limits → sound limits s ≡ true → Named table subject s
+    → state f ≡ start → CanWalk limits table subject s f 1 (question-count s)
+can-begin {limits} table subject s fit t named e = record {
+  entries-few = fit .entries-few;
+  walkable = sound-walkable limits s fit t;
+  named = named;
+  from-one = omega arith;
+  to-last = omega arith;
+  holds = holds-none most-steps e;
+}

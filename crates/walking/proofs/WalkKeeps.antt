@@ -66,7 +66,6 @@ module _ {s : List ℕ} {o : Outcome Placed} (next : ℕ → List ℕ → Outcom
       go Full e = then-on g (full-stays (g .walkable))
 
 -- ---- placing
-
 module _ (limits : Limits) (few : limits .entries ≤ most-entries) {s : List ℕ} (w : Walkable s) (k y n : ℕ)
     (first : 1 ≤ k) (last : k ≤ question-count s) (yes-in : y < used s + leaves) (no-in : n < used s + leaves) where
   add-goes : GoesOn s (add-entry limits s (an-entry k y n))
