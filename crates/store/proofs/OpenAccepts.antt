@@ -29,7 +29,7 @@ no {o} r e =
     let z : _≡_ {A = ℕ} 0 1 = cc in
     omega arith
 
-both : (f g : Opened) → and-then f g ≡ Accepted → (f ≡ Accepted) × (g ≡ Accepted)
+pub both : (f g : Opened) → and-then f g ≡ Accepted → (f ≡ Accepted) × (g ≡ Accepted)
 both Accepted g e = (refl, e)
 both TooManyFields g e = absurd (no refl e)
 both OddList g e = absurd (no refl e)

@@ -80,10 +80,10 @@ stands NotSimplified b h = refl
 stands NotAbove b h = refl
 stands TooShort b h = refl
 
-one-less : (n i : ℕ) → i < n → n - i ≡ suc (n - (i + 1))
+pub one-less : (n i : ℕ) → i < n → n - i ≡ suc (n - (i + 1))
 one-less n i h = omega arith
 
-none-left : (n i : ℕ) → n ≤ i → n - i ≡ 0
+pub none-left : (n i : ℕ) → n ≤ i → n - i ≡ 0
 none-left n i h = omega arith
 
 module _ (limits : TermLimits) (words : List ℕ) where

@@ -1,19 +1,17 @@
 -- The walk on a store's words: a value that is known is a leaf, a forced question is skipped, and an open one is asked, the yes part before
 -- the no part.
 use Prim.Native.Nat.{ℕ, zero, suc, _+_}
-use mathlib.Core.Bool.{true, false, cond}
-use mathlib.Core.List.{List, [], _∷_}
+use mathlib.Core.Bool.{cond}
+use mathlib.Core.List.{List}
 use lib.Dec.{eqb}
 use Rattle.diagram.specs.declared.placing.Placed.{Placed}
-use Rattle.diagram.specs.declared.placing.Placed.the-variants.{At, Full}
+use Rattle.diagram.specs.declared.placing.Placed.the-variants.{At}
 use Rattle.diagram.specs.Insert.{an-entry, place-entry, then-place}
-use Rattle.facts.specs.declared.decision.Decision.{Decision}
 use Rattle.facts.specs.declared.decision.Decision.the-variants.{Always, Never, Open}
 use Rattle.facts.specs.State.{State, no-to, yes-to, decide}
 use Rattle.store.specs.declared.limits.Limits.{Limits}
 use Rattle.store.specs.Layout.{question}
 use Rattle.store.specs.Outcome.{Outcome, outcome}
-use Rattle.terms.specs.declared.term.Equation.{Equation}
 use Rattle.walking.specs.declared.subject.Subject.{Subject}
 use Rattle.walking.specs.Value.{subject-value}
 
