@@ -48,6 +48,10 @@ pub record Numbered (marks : List Bool) (handle : ℕ) (rows : List ℕ) (count 
 abbrev pub put : List ℕ → ℕ → List ℕ → List ℕ
 put out at words = take at out ++ words ++ drop (at + length words) out
 
+-- the rows of the entries come after those of the leaves
+abbrev pub after-leaves : ℕ
+after-leaves = row-length * leaves
+
 -- the words of the i-th entry's two rows, by the rows of the handles
 abbrev pub entry-words : List ℕ → List ℕ → ℕ → List ℕ
 entry-words s rows i =

@@ -15,12 +15,15 @@ use store::question_of;
 use store::wide;
 use store::yes_of;
 
+// How many words a row has.
+pub const ROW: usize = 4;
+
 // Writes the row with a number.
 fn put_row(out: &mut [u32], row: usize, kind: u32, a: u32, b: u32, c: u32)
     requires { ⌜ table.row-length * row + table.row-length ≤ length (now out) ⌝ }
     ensures { λ r. ⌜ now (out .exit) ≡ arrays.put (now (out .entry)) (table.row-length * row) (kind ∷ a ∷ b ∷ c ∷ []) ⌝ }
 {
-    let at = 4 * row;
+    let at = ROW * row;
     out[at] = kind;
     out[at + 1] = a;
     out[at + 2] = b;
@@ -47,7 +50,7 @@ fn write_entry(s: &[u32], marks: &Marks, rows: &RowNumbers, i: usize, out: &mut 
 fn write_entries(s: &[u32], marks: &Marks, rows: &RowNumbers, handle: usize, out: &mut [u32])
     requires { ⌜ arrays.Writable (now s) handle (now marks) (now rows) (length (now out)) ⌝ }
     requires { ⌜ 1 ≤ handle ⌝ }
-    ensures { λ r. ⌜ now (out .exit) ≡ arrays.put (now (out .entry)) 8 (back.entries-rows (now (s .entry)) (back.reachable (now (s .entry)) handle) (suc handle - layout.leaves)) ⌝ }
+    ensures { λ r. ⌜ now (out .exit) ≡ arrays.put (now (out .entry)) arrays.after-leaves (back.entries-rows (now (s .entry)) (back.reachable (now (s .entry)) handle) (suc handle - layout.leaves)) ⌝ }
 {
     let mut h = LEAVES;
     while h <= handle {

@@ -13,6 +13,7 @@ use crate::marking::HANDLES;
 use crate::marking::LEAVES;
 use crate::marking::mark_down;
 use crate::marking::number_rows;
+use crate::rows::ROW;
 use crate::rows::write_rows;
 use soundness::is_sound;
 use store::Limits;
@@ -45,7 +46,7 @@ fn write_sound(s: &[u32], handle: usize, out: &mut [u32]) -> Written
     if MOST_ROWS < count {
         return Written::TooManyRows;
     }
-    if out.len() < 4 * wide(count) {
+    if out.len() < ROW * wide(count) {
         return Written::TooShort;
     }
     write_rows(s, &marks, &rows, handle, out);
