@@ -1,0 +1,2 @@
+pub mod RestsOn
+pub mod MeaningAdded
