@@ -1,2 +1,4 @@
+
 pub mod RestsOn
 pub mod MeaningAdded
+pub mod HandleLaw

@@ -3,7 +3,7 @@
 use Prim.Native.Nat.{ℕ, zero, suc, _+_, _≤_, _<_}
 use mathlib.Core.Path.{_≡_, refl, sym, ap, ap₂, _∙_, subst}
 use mathlib.Core.Logic.{_↔_}
-use mathlib.Core.Bool.{Bool, true, false, cond}
+use mathlib.Core.Bool.{Bool, true, false, cond, true≢false}
 use mathlib.Core.List.{List, [], _∷_}
 use native.Mathlib.Omega.{arith}
 use native.Mathlib.Decide.{ℕ-discrete}
@@ -31,7 +31,7 @@ use Rattle.diagram.proofs.InsertAgain.{insert-again}
 use Rattle.diagram.proofs.InsertTree.{Inserted, insert-tree}
 use Rattle.store.proofs.SoundFacts.{Sound}
 use Rattle.store.proofs.SoundTree.{meaning-is-tree, same-tree, tree-never, tree-always}
-use Rattle.operations.proofs.RestsOn.{Rests, rests-alike, rests-constant}
+use Rattle.operations.proofs.RestsOn.{Rests, rests-alike, rests-constant, accepts}
 
 -- ---- the questions of a store
 questions-length : (s : List ℕ) (left k : ℕ) → length (questions-from s left k) ≡ left
@@ -200,15 +200,16 @@ module _ {limits : Limits} {s : List ℕ} (snd : Sound limits s) {means : Valuat
       record { later = later-same snd; stands = λ h d. let z : _≡_ {A = ℕ} 0 1 = cc in absurd (omega arith) }
 
   -- A diagram that stands is found again, and nothing is added.
-  pub meaning-again : {h : ℕ} {others : Valuation → Bool} → Stands s h others → ((v : Valuation) → means v ≡ meaning s h v)
+  pub rebuild-same : {h : ℕ} {others : Valuation → Bool} → Stands s h others → ((v : Valuation) → means v ≡ meaning s h v)
       → add-meaning limits s means ≡ outcome (Handle h) s
   unfolding added
-  meaning-again {h} {others} k e =
+  rebuild-same {h} {others} k e =
       let d : tree s h ≡ finished-in s means = k .diagram ∙ sym (finished-alike s means others (λ v. e v ∙ stands-means snd k v)) in
       ap (λ (o : Outcome Placed). elim (o .answer) as (λ _. Outcome Built) [ At g ↦ outcome (Handle g) (o .words) | Full ↦ outcome NoRoom s ])
       (insert-again snd (finished-in s means) h (k .handle-in) d)
 
 -- "51, used plus new entries exceeds room": every word is as it came
-pub no-room : (limits : Limits) (s : List ℕ) (means : Valuation → Bool) → add-meaning limits s means .answer ≡ NoRoom → add-meaning limits s means .words ≡ s
-no-room limits s means = added-cases limits (finished-in s means) s (λ o. o .answer ≡ NoRoom → o .words ≡ s)
-    (λ h _ d. let z : _≡_ {A = ℕ} 0 1 = cc in absurd (omega arith)) (λ _. refl)
+pub added-unchanged : (limits : Limits) (s : List ℕ) (means : Valuation → Bool) → accepts (add-meaning limits s means .answer) ≡ false
+    → add-meaning limits s means .words ≡ s
+added-unchanged limits s means = added-cases limits (finished-in s means) s (λ o. accepts (o .answer) ≡ false → o .words ≡ s)
+    (λ h _ n. absurd (true≢false n)) (λ _. refl)

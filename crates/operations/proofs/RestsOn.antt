@@ -13,6 +13,7 @@ use Rattle.diagram.specs.Questions.{questions-from, questions}
 use Rattle.facts.specs.Least.{All}
 use Rattle.operations.specs.declared.answer.Built.{Built}
 use Rattle.operations.specs.declared.answer.Built.the-variants.{Handle, NotSound, NoHandle, NoWords, NotRows, TooManyRows, BadRow, OutOfLimits, NotListed, NoRoom}
+use Rattle.operations.specs.Answer.{built-number}
 use Rattle.operations.specs.Table.{same-equation, on-list, guard-listed, well-formed, fine, equation-fault, row-fault, rows-fault, table-fault}
 use Rattle.store.specs.declared.limits.Limits.{Limits}
 use Rattle.store.specs.Layout.{field-count, question-count, question, used, entry, leaves}
@@ -107,18 +108,9 @@ row-equation r = equation (term-of (r .a)) (term-of (r .b))
 abbrev Listed : List ℕ → Row → Type 0
 Listed s r = r .kind ≡ 2 → guard-listed s (simplify (row-equation r)) ≡ true
 
--- the answer is no refusal
-abbrev accepts : Built → Bool
-accepts (Handle h) = true
-accepts NotSound = false
-accepts NoHandle = false
-accepts NoWords = false
-accepts NotRows = false
-accepts TooManyRows = false
-accepts BadRow = false
-accepts OutOfLimits = false
-accepts NotListed = false
-accepts NoRoom = false
+-- "Number 0 is success."
+abbrev pub accepts : Built → Bool
+accepts a = eqb (built-number a) 0
 
 -- where the test fails there is a refusal
 test-passes : (t : Bool) (a b : Built) → accepts b ≡ false → accepts (cond t a b) ≡ true → (t ≡ true) × (accepts a ≡ true)
