@@ -1,4 +1,3 @@
-
 pub mod RestsOn
 pub mod MeaningAdded
 pub mod HandleLaw

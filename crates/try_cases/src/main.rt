@@ -16,18 +16,26 @@ fn signed(z: i32) {
     }
 }
 
+fn word(n: u32) {
+    number(n as u64);
+}
+
+fn count(n: u16) {
+    number(n as u64);
+}
+
 // The words of a slice, after a bar.
 fn words(list: &[u32]) {
     io::write_all(STDOUT_FILENO, b" |");
     for i in 0..list.len() {
-        number(list[i] as u64);
+        word(list[i]);
     }
 }
 
 fn counts(sheet: &[u16]) {
     io::write_all(STDOUT_FILENO, b" |");
     for i in 0..sheet.len() {
-        number(sheet[i] as u64);
+        count(sheet[i]);
     }
 }
 
@@ -41,8 +49,8 @@ fn call(case: &[u8], name: &[u8]) {
 // Its end: number and result.
 fn answer(number_of: u32, result: u32) {
     io::write_all(STDOUT_FILENO, b":");
-    number(number_of as u64);
-    number(result as u64);
+    word(number_of);
+    word(result);
 }
 
 fn line() {
@@ -51,7 +59,7 @@ fn line() {
 
 fn open(case: &[u8], n: u32, list: &[u32], store: &mut [u32]) {
     call(case, b"open");
-    number(n as u64);
+    word(n);
     words(list);
     answer(store::open_number(store::open(n, list, store)), 0);
     words(store);
@@ -60,7 +68,7 @@ fn open(case: &[u8], n: u32, list: &[u32], store: &mut [u32]) {
 
 fn verdict(case: &[u8], store: &[u32], handle: u32) {
     call(case, b"verdict");
-    number(handle as u64);
+    word(handle);
     let v = verdicts::verdict_of(store, handle);
     answer(verdicts::verdict_number(v), verdicts::verdict_result(v));
     line();
@@ -68,15 +76,18 @@ fn verdict(case: &[u8], store: &[u32], handle: u32) {
 
 fn example(case: &[u8], store: &[u32], handle: u32, out: &mut [u16]) {
     call(case, b"example");
-    number(handle as u64);
-    answer(examples::example_number(examples::example_of(store, handle, out)), 0);
+    word(handle);
+    answer(
+        examples::example_number(examples::example_of(store, handle, out)),
+        0,
+    );
     counts(out);
     line();
 }
 
 fn read(case: &[u8], store: &[u32], handle: u32, sheet: &[u16]) {
     call(case, b"read");
-    number(handle as u64);
+    word(handle);
     counts(sheet);
     let r = sheets::read(store, handle, sheet);
     answer(sheets::read_number(r), sheets::read_result(r));
@@ -85,7 +96,7 @@ fn read(case: &[u8], store: &[u32], handle: u32, sheet: &[u16]) {
 
 fn write_back(case: &[u8], store: &[u32], handle: u32, out: &mut [u32]) {
     call(case, b"write_back");
-    number(handle as u64);
+    word(handle);
     let w = tables::write_back(store, handle, out);
     answer(tables::written_number(w), tables::written_result(w));
     words(out);
@@ -94,14 +105,14 @@ fn write_back(case: &[u8], store: &[u32], handle: u32, out: &mut [u32]) {
 
 fn simplify(case: &[u8], left: u32, right: u32) {
     call(case, b"simplify");
-    number(left as u64);
-    number(right as u64);
+    word(left);
+    word(right);
     io::write_all(STDOUT_FILENO, b":");
     let a = terms::answer_of(terms::simplify(left, right));
-    number(a.number as u64);
-    number(a.result as u64);
-    number(a.left as u64);
-    number(a.right as u64);
+    word(a.number);
+    word(a.result);
+    word(a.left);
+    word(a.right);
     signed(a.gap);
     line();
 }
@@ -125,30 +136,53 @@ fn edges() {
     simplify(b"edge", 0, 4294967295);
 }
 
-// Opening: case 4's 14, case 5, and lists and stores that are refused for one reason after the other.
-fn openings() {
-    let mut five = [7u32; 5];
-    open(b"4", 1, &[1, 8192], &mut five);
-    open(b"4", 1, &[1, 8160], &mut five);
-    let mut three = [9u32; 3];
-    open(b"5", 0, &[], &mut three);
-    let mut two = [9u32; 2];
-    open(b"5", 0, &[], &mut two);
-    open(b"edge", 17, &[1], &mut two);
-    open(b"edge", 4294967295, &[], &mut two);
-    open(b"edge", 1, &[1], &mut two);
-    open(b"edge", 1, &[0u32; 42], &mut two);
-    open(b"edge", 1, &[2, 1], &mut two);
-    open(b"edge", 2, &[1, 2], &mut two);
-    open(b"edge", 2, &[2, 1, 2, 1], &mut two);
-    open(b"edge", 2, &[1, 0, 2, 1], &mut five);
+// Opening on words that are there already.
+fn open_two(case: &[u8], n: u32, list: &[u32]) {
+    let mut store = [9u32; 2];
+    open(case, n, list, &mut store);
 }
 
-// Case 11's store, and what every call answers that leaves a store as it is.
+fn open_five(case: &[u8], n: u32, list: &[u32]) {
+    let mut store = [7u32; 5];
+    open(case, n, list, &mut store);
+}
+
+// Case 4's 14, case 5, and lists and stores that are refused for one reason after the other.
+fn openings() {
+    open_five(b"4", 1, &[1, 8192]);
+    open_five(b"4", 1, &[1, 8160]);
+    let mut three = [9u32; 3];
+    open(b"5", 0, &[], &mut three);
+    open_two(b"5", 0, &[]);
+    open_two(b"edge", 17, &[1]);
+    open_two(b"edge", 4294967295, &[]);
+    open_two(b"edge", 1, &[1]);
+    open_two(b"edge", 1, &[0u32; 42]);
+    open_two(b"edge", 1, &[2, 1]);
+    open_two(b"edge", 2, &[1, 2]);
+    open_two(b"edge", 2, &[2, 1, 2, 1]);
+    open_five(b"edge", 2, &[1, 0, 2, 1]);
+}
+
+// Case 11's store.
+fn one_count(store: &[u32], handle: u32) {
+    let mut sheet = [7u16; 1];
+    example(b"11", store, handle, &mut sheet);
+}
+
+fn written(store: &[u32], handle: u32) {
+    let mut rows = [7u32; 25];
+    write_back(b"11", store, handle, &mut rows);
+    let mut few = [7u32; 23];
+    write_back(b"11", store, handle, &mut few);
+}
+
+// What every call answers that leaves the store as it is.
 fn neither() {
     let store = [1, 2, 2, 1, 0, 1, 32, 2, 0, 1, 1, 0, 2];
-    let mut sheet = [7u16; 1];
-    example(b"11", &store, 3, &mut sheet);
+    one_count(&store, 3);
+    one_count(&store, 0);
+    one_count(&store, 4294967295);
     verdict(b"11", &store, 3);
     verdict(b"11", &store, 0);
     verdict(b"11", &store, 1);
@@ -157,12 +191,7 @@ fn neither() {
     read(b"11", &store, 3, &[1]);
     read(b"11", &store, 3, &[65535]);
     read(b"11", &store, 3, &[1, 1]);
-    let mut rows = [7u32; 25];
-    write_back(b"11", &store, 3, &mut rows);
-    let mut few = [7u32; 23];
-    write_back(b"11", &store, 3, &mut few);
-    example(b"11", &store, 0, &mut sheet);
-    example(b"11", &store, 4294967295, &mut sheet);
+    written(&store, 3);
 }
 
 // Words that are no store: none, a list that is no list, an entry twice, a word left behind.
