@@ -1,4 +1,4 @@
-
 pub mod RestsOn
 pub mod MeaningAdded
 pub mod HandleLaw
+pub mod BooleanLaws
