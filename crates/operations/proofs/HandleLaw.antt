@@ -1,6 +1,6 @@
 -- The handle law: at each pair's handle stands the finished diagram of its rule. A given handle means what its rule does, so an accepted call adds a
 -- pair of that kind; and what stands at a handle stays, whatever is called later.
-use Prim.Native.Nat.{ℕ}
+use Prim.Native.Nat.{ℕ, _≤_}
 use mathlib.Core.Path.{_≡_, refl, sym, ap, ap₂, _∙_}
 use mathlib.Core.Bool.{Bool, true, false, cond, not, _&&_, true≢false}
 use mathlib.Core.List.{List, [], _∷_}
@@ -14,18 +14,20 @@ use Rattle.operations.specs.Operations.{add-meaning, is-handle}
 use Rattle.operations.specs.Table.{table-fault}
 use Rattle.store.specs.declared.limits.Limits.{Limits}
 use Rattle.store.specs.declared.opening.Opened.the-variants.{Accepted}
+use Rattle.store.specs.Layout.{field-count}
 use Rattle.store.specs.Meaning.{meaning}
 use Rattle.store.specs.Open.{opening, opened-words}
 use Rattle.store.specs.Outcome.{Outcome, outcome}
 use Rattle.store.specs.Sound.{sound}
 use Rattle.tables.specs.Rows.{rule-meaning}
+use Rattle.terms.specs.declared.term.Field.{Field}
 use Rattle.terms.specs.Meaning.{Valuation}
 use Rattle.store.proofs.OpenSound.{opened-sound}
 use Rattle.store.proofs.SoundFacts.{Sound, sound-says, sound-from}
 use Rattle.store.proofs.Tests.{first-passes, second-passes}
 use Rattle.terms.proofs.Cases.{by-test, by-eq}
 use Rattle.operations.proofs.MeaningAdded.{Later, later-same, later-on, Stands, stands-later, stands-means, stands-exact, never-stands, always-stands, Answered, answered-alike, meaning-added, rebuild-same, added-unchanged}
-use Rattle.operations.proofs.RestsOn.{Rests, rests-not, rests-and, rests-if, accepts, handle-rests, table-rests}
+use Rattle.operations.proofs.RestsOn.{Rests, rests-not, rests-and, rests-if, accepts, handle-rests, table-rests, rests-fields}
 
 -- ---- what a call does to a sound store
 -- the test that the store is sound passes
@@ -98,20 +100,20 @@ rule-means {s = s} snd (p ∷ ps) each h v = by-eq (λ t. meaning s h v ≡ cond
     (λ _. rule-means snd ps (λ q i. each q (older i)) h v)
 
 module _ {limits : Limits} {b : Books} (k : Kept limits b) where
-  means : (h : ℕ) (v : Valuation) → meaning (b .words) h v ≡ rule-of (b .ledger) (b .words) h v
-  means = rule-means (k .sound) (b .ledger) (k .each)
+  pub rule-is-meaning : (h : ℕ) (v : Valuation) → meaning (b .words) h v ≡ rule-of (b .ledger) (b .words) h v
+  rule-is-meaning = rule-means (k .sound) (b .ledger) (k .each)
 
   pub call-answered : (c : Call) → Answered limits (b .words) (rule-of-call (b .ledger) (b .words) c) (answer-to limits c (b .words))
   unfolding operation.negate operation.join operation.choose
   call-answered (build table) = build-answered (k .sound) table
   call-answered (negate x) =
       let s = b .words in
-      handles-answered (k .sound) (is-handle s x) (λ v. not (meaning s x v)) (λ t. rests-not (handle-in (k .sound) x t)) (λ v. ap not (means x v))
+      handles-answered (k .sound) (is-handle s x) (λ v. not (meaning s x v)) (λ t. rests-not (handle-in (k .sound) x t)) (λ v. ap not (rule-is-meaning x v))
   call-answered (join x y) =
       let s = b .words in
       handles-answered (k .sound) (is-handle s x && is-handle s y) (λ v. meaning s x v && meaning s y v)
       (λ t. rests-and (handle-in (k .sound) x (first-passes (is-handle s x) (is-handle s y) t)) (handle-in (k .sound) y (second-passes (is-handle s x) (is-handle s y) t)))
-      (λ v. ap₂ _&&_ (means x v) (means y v))
+      (λ v. ap₂ _&&_ (rule-is-meaning x v) (rule-is-meaning y v))
   call-answered (choose x y z) =
       let s = b .words in
       handles-answered (k .sound) (is-handle s x && is-handle s y && is-handle s z) (λ v. cond (meaning s x v) (meaning s y v) (meaning s z v))
@@ -120,7 +122,7 @@ module _ {limits : Limits} {b : Books} (k : Kept limits b) where
       rests-if (handle-in (k .sound) x (first-passes (is-handle s x) (is-handle s y) two))
       (handle-in (k .sound) y (second-passes (is-handle s x) (is-handle s y) two))
       (handle-in (k .sound) z (second-passes (is-handle s x && is-handle s y) (is-handle s z) t)))
-      (λ v i. cond (means x v i) (means y v i) (means z v i))
+      (λ v i. cond (rule-is-meaning x v i) (rule-is-meaning y v i) (rule-is-meaning z v i))
 
 -- a claim about the ledger after a call
 enter-cases : (P : List Pair → Type 0) (ps : List Pair) (r : Rule) (a : Built) → ((h : ℕ) → a ≡ Handle h → P (pair h r ∷ ps)) → P ps → P (enter ps r a)
@@ -156,14 +158,22 @@ kept-run k (c ∷ cs) = kept-run (kept-after k c) cs
 pub kept-law : {limits : Limits} {b : Books} → Kept limits b → HandleLaw (b .ledger)
 kept-law k p q i j = stands-exact (k .sound) (k .each p i) (k .each q j)
 
+-- a rule reads the counts of the n fields only
+pub rule-fields : {limits : Limits} {b : Books} → Kept limits b → (p : Pair) → In p (b .ledger)
+    → (v w : Valuation) → ((f : Field) → 1 ≤ f .0 → f .0 ≤ field-count (b .words) → v f ≡ w f) → p .rule v ≡ p .rule w
+rule-fields k p i = rests-fields (k .sound) (k .each p i .rests)
+
 -- "It starts with the pairs 0, never and 1, always.": in any sound store
 pub first-kept : {limits : Limits} {s : List ℕ} → Sound limits s → Kept limits (record { words = s; ledger = first-ledger })
 first-kept snd = record { sound = snd; each = with-pair (always-stands snd) (with-pair (never-stands snd) (λ p i. elim i [ ])) }
 
--- "It starts from a store that open has just accepted, with any n, list and length.": after any list of calls
-pub handle-law : (limits : Limits) (n : ℕ) (list s : List ℕ) → opening limits n list (length s) ≡ Accepted → (calls : List Call)
-    → HandleLaw (run limits (record { words = opened-words n list (length s); ledger = first-ledger }) calls .ledger)
-handle-law limits n list s e calls = kept-law (kept-run (first-kept (sound-says limits (opened-words n list (length s)) (opened-sound limits n list s e))) calls)
+-- "It starts from a store that open has just accepted, with any n, list and length.": the books after any list of calls
+module _ (limits : Limits) (n : ℕ) (list s : List ℕ) (e : opening limits n list (length s) ≡ Accepted) (calls : List Call) where
+  pub opened-kept : Kept limits (run limits (record { words = opened-words n list (length s); ledger = first-ledger }) calls)
+  opened-kept = kept-run (first-kept (sound-says limits (opened-words n list (length s)) (opened-sound limits n list s e))) calls
+
+  pub handle-law : HandleLaw (run limits (record { words = opened-words n list (length s); ledger = first-ledger }) calls .ledger)
+  handle-law = kept-law opened-kept
 
 -- ---- any list of calls on any sound store
 -- the words after a call are those of a later store
@@ -179,19 +189,28 @@ run-later {limits} b snd (c ∷ cs) = let l = call-later snd c in later-on l (ru
 pub run-sound : {limits : Limits} (b : Books) → Sound limits (b .words) → (calls : List Call) → Sound limits (run limits b calls .words)
 run-sound b snd calls = run-later b snd calls .sound
 
--- "if an accepted build, negate, join or choose returned h": after any further calls the handle has its finished diagram still
-pub returned-stands : {limits : Limits} (b : Books) → Sound limits (b .words) → (c : Call) (h : ℕ) → answer-to limits c (b .words) .answer ≡ Handle h
+-- a handle that an accepted call returned has its finished diagram still, after any further calls
+returned-stands : {limits : Limits} (b : Books) → Sound limits (b .words) → (c : Call) (h : ℕ) → answer-to limits c (b .words) .answer ≡ Handle h
     → (calls : List Call) → Stands (run limits (after limits b c) calls .words) h (rule-of-call first-ledger (b .words) c)
 returned-stands {limits} b snd c h e calls =
     let a = call-answered (first-kept snd) c in
     stands-later (run-later (after limits b c) (a .later .sound) calls) (a .stands h e)
 
--- "building exactly its rows answers 0 and h and leaves every word as it was": any accepted table that means what the handle does
+-- any accepted table that means what such a handle does
 pub build-again : {limits : Limits} {s : List ℕ} → Sound limits s → {h : ℕ} {means : Valuation → Bool} → Stands s h means
     → (table : List ℕ) (g : ℕ) → table-fault limits s table ≡ Handle g → ((v : Valuation) → rule-meaning table v ≡ meaning s h v)
     → operation.build limits table s ≡ outcome (Handle h) s
 unfolding operation.build
 build-again {limits} {s} snd {h} k table g f e = past-sound snd (λ o. o ≡ outcome (Handle h) s) _ (rw f (rebuild-same snd k e))
+
+-- "Building it on the same store gives that handle again if one of the operations had returned it.": so does every accepted table that means what
+-- the handle does, and no word changes
+pub returned-again : {limits : Limits} (b : Books) → Sound limits (b .words) → (c : Call) (h : ℕ) → answer-to limits c (b .words) .answer ≡ Handle h
+    → (calls : List Call) (table : List ℕ) (g : ℕ) → table-fault limits (run limits (after limits b c) calls .words) table ≡ Handle g
+    → ((v : Valuation) → rule-meaning table v ≡ meaning (run limits (after limits b c) calls .words) h v)
+    → operation.build limits table (run limits (after limits b c) calls .words) ≡ outcome (Handle h) (run limits (after limits b c) calls .words)
+returned-again {limits} b snd c h e calls =
+    build-again (run-sound (after limits b c) (call-later snd c .sound) calls) (returned-stands b snd c h e calls)
 
 -- ---- refusals
 -- "On refusal ... all lent words are unchanged.": any call on any words

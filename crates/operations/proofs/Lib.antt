@@ -1,3 +1,4 @@
 pub mod RestsOn
 pub mod MeaningAdded
 pub mod HandleLaw
+pub mod BooleanLaws

@@ -24,12 +24,15 @@ use Rattle.tables.specs.WriteBack.{most-rows}
 use Rattle.terms.specs.declared.simplification.Guard.{Guard}
 use Rattle.terms.specs.declared.simplification.Guard.the-variants.{Never, Always, Question}
 use Rattle.terms.specs.declared.term.Equation.{Equation}
+use Rattle.terms.specs.declared.term.Field.{Field}
+use Rattle.terms.specs.declared.term.Term.{Term}
 use Rattle.terms.specs.declared.term.TermLimits.{TermLimits}
-use Rattle.terms.specs.Meaning.{Valuation, truth, guard-truth}
+use Rattle.terms.specs.Meaning.{Valuation, count, value, truth, guard-truth}
 use Rattle.terms.specs.Simplify.{simplify}
 use Rattle.terms.specs.Words.{equation, term-of, allows}
 use Rattle.store.proofs.Handles.{by-handles, leaf-stays}
 use Rattle.store.proofs.SoundFacts.{Sound}
+use Rattle.store.proofs.SoundList.{sound-question}
 use Rattle.store.proofs.SoundTree.{falling, meaning-entry}
 use Rattle.store.proofs.Tests.{passes}
 use Rattle.terms.proofs.Cases.{by-test, by-eq}
@@ -212,3 +215,21 @@ pub table-rests : (limits : Limits) (s table : List ℕ) (h : ℕ) → table-fau
 table-rests limits s table h e = record {
   same = λ v w a. ap (λ truths. getD truths (row-count table - 1) false) (same-rows s v w a table (row-count table) (table-listed limits s table (ap accepts e)));
 }
+
+-- ---- the fields of a store
+all-from : (P : Equation → Type 0) (s : List ℕ) (left k : ℕ) → ((j : ℕ) → k ≤ j → j < k + left → P (question s j)) → All P (questions-from s left k)
+unfolding questions-from
+all-from P s zero k f = tt
+all-from P s (suc left) k f = (f k (omega arith) (omega arith), all-from P s left (k + 1) (λ j h l. f j (omega arith) (omega arith)))
+
+-- "A choice of counts gives each of the n fields a natural number.": what a choice gives beyond them is never read
+pub rests-fields : {limits : Limits} {s : List ℕ} → Sound limits s → {means : Valuation → Bool} → Rests s means
+    → (v w : Valuation) → ((f : Field) → 1 ≤ f .0 → f .0 ≤ field-count s → v f ≡ w f) → means v ≡ means w
+unfolding count
+rests-fields {s = s} snd r v w e = r .same v w (all-from (λ q. truth v q ≡ truth w q) s (question-count s) 1 (λ j h l.
+    let k = sound-question snd j h (omega arith) in
+    ap₂ eqb (same-value (question s j .left) (k .left .field-in)) (same-value (question s j .right) (k .right .field-in))))
+  where
+    same-value : (t : Term) → t .field .0 ≤ field-count s → value v t ≡ value w t
+    same-value t l = ap (λ n. n + t .steps .0)
+        (by-eq (λ z. cond z 0 (v (t .field)) ≡ cond z 0 (w (t .field))) (t .field .0) 0 (λ _. refl) (λ n. e (t .field) (omega arith) l))
