@@ -1,1 +1,1 @@
-pub mod WalkInserts
+pub mod ValueRight
