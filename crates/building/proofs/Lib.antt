@@ -1,1 +1,3 @@
 pub mod ValueRight
+pub mod TableListed
+pub mod ValueKnown
