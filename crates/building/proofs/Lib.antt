@@ -1,3 +1,4 @@
 pub mod ValueRight
 pub mod TableListed
 pub mod ValueKnown
+pub mod PartsInserted
