@@ -174,3 +174,100 @@ module _ {limits : Limits} {table : List ℕ} {subject : Subject} {s : List ℕ}
         → walk limits table subject left k (state-of xs) s′ ≡ insert limits (finish (questions-from s left k) k (state-of xs) (subject-meaning table subject s)) s′
     at-never e = walk-never limits table subject left k (state-of xs) s′ (now l xs Never e)
         ∙ sym (leaf-inserted limits (questions-from s left k) k xs (subject-meaning table subject s) false t (says xs t Never e) s′)
+
+  -- the walk adds what is finished from the question with the number k on
+  abbrev Adds : ℕ → ℕ → List Fact → List ℕ → Type 0
+  Adds left k xs s′ =
+      walk limits table subject left k (state-of xs) s′ ≡ insert limits (finish (questions-from s left k) k (state-of xs) (subject-meaning table subject s)) s′
+
+  -- the next question, where the walk is right from the one after it
+  module _ (left k : ℕ) (later : (xs : List Fact) → Going s left (k + 1) xs → (s′ : List ℕ) → Grown limits s s′ → Adds left (k + 1) xs s′)
+      (xs : List Fact) (g : Going s (suc left) k xs) (s′ : List ℕ) (l : Grown limits s s′) (e : subject-value table subject s (state-of xs) ≡ Open) where
+    here : (d : Decision) → decide (state-of xs) (question s k) ≡ d → decide (state-of xs) (question s′ k) ≡ d
+    here d f = ap (decide (state-of xs)) (question-agrees (l .agree) k) ∙ f
+
+    skipped : (d : Decision) → decide (state-of xs) (question s k) ≡ d → Known d → Adds (suc left) k xs s′
+    unfolding questions-from
+    skipped d f known =
+        let q = question s k in
+        let going : Going s left (k + 1) xs = record {
+          some-fit = g .some-fit;
+          to-last = omega (arith, g .to-last);
+          before = settled-next s k xs xs (λ v h. h) (g .before) (settled-by xs q d (forces xs q (g .some-fit) d f) known);
+        } in
+        walk-skips limits table subject left k (state-of xs) s′ (now l xs Open e) d (here d f) known
+        ∙ later xs going s′ l
+        ∙ ap (λ u. insert limits u s′) (sym (finish-skips q (questions-from s left (k + 1)) k (state-of xs) (subject-meaning table subject s) d f known))
+
+    part-after : (st : State) → PartAfter s′ k (finish (questions-from s left (k + 1)) (k + 1) st (subject-meaning table subject s))
+    part-after st = record {
+      ascending = finish-ascending (questions-from s left (k + 1)) (k + 1) (question-count s′) st (subject-meaning table subject s)
+          (omega (arith, questions-length s left (k + 1), g .to-last, questions-agree (l .agree)));
+      reduced = finish-reduced (questions-from s left (k + 1)) (k + 1) st (subject-meaning table subject s);
+    }
+
+    asked : decide (state-of xs) (question s k) ≡ Open → Adds (suc left) k xs s′
+    unfolding questions-from
+    asked f =
+        let q = question s k in
+        let st = state-of xs in
+        let means = subject-meaning table subject s in
+        let qs = questions-from s left (k + 1) in
+        let y = finish qs (k + 1) (yes-to st q) means in
+        let n = finish qs (k + 1) (no-to st q) means in
+        let walks : State → List ℕ → Outcome Placed = walk limits table subject left (k + 1) in
+        let walked : ℕ → List ℕ → Outcome Placed = λ h s₁. then-place (walks (no-to st q) s₁) (λ hn s₂. place-parts limits k h hn s₂) in
+        let placed : ℕ → List ℕ → Outcome Placed = λ h s₁. then-place (insert limits n s₁) (λ hn s₂. place-parts limits k h hn s₂) in
+        let going-yes : Going s left (k + 1) (fact q true ∷ xs) = record {
+          some-fit = yes-free xs q (g .some-fit) f;
+          to-last = omega (arith, g .to-last);
+          before = settled-asked s k xs true (g .before);
+        } in
+        let going-no : Going s left (k + 1) (fact q false ∷ xs) = record {
+          some-fit = no-free xs q (g .some-fit) f;
+          to-last = omega (arith, g .to-last);
+          before = settled-asked s k xs false (g .before);
+        } in
+        let fy = part-after (yes-to st q) in
+        let fn = part-after (no-to st q) in
+        let puts = insert-puts y (l .sound) (k + 1) (question-count s′) (fy .ascending) (fy .reduced) (omega arith) (omega arith) in
+        let s₁ = insert limits y s′ .words in
+        walk-asks limits table subject left k st s′ (now l xs Open e) (here Open f)
+        ∙ ap (λ p. then-place (walks (yes-to st p) s′) (λ h s₁. then-place (walks (no-to st p) s₁) (λ hn s₂. place-parts limits k h hn s₂))) (question-agrees (l .agree) k)
+        ∙ ap (λ o. then-place o walked) (later (fact q true ∷ xs) going-yes s′ l)
+        ∙ then-same (insert limits y s′) walked placed
+        (λ h _. ap (λ o. then-place o (λ hn s₂. place-parts limits k h hn s₂)) (later (fact q false ∷ xs) going-no s₁ (grown-on l (puts .grown))))
+        ∙ parts-inserted (l .sound) k y n fy fn
+        ∙ ap (λ u. insert limits u s′) (sym (finish-asks q qs k st means f))
+
+    at-question : (d : Decision) → decide (state-of xs) (question s k) ≡ d → Adds (suc left) k xs s′
+    at-question Always f = skipped Always f tt
+    at-question Never f = skipped Never f tt
+    at-question Open f = asked f
+
+  at-end : (k : ℕ) (xs : List Fact) → Going s zero k xs → subject-value table subject s (state-of xs) ≡ Open → ⊥
+  at-end k xs g e =
+      let all : SettledTo s (question-count s + 1) xs = subst (λ j. SettledTo s j xs) (omega (arith, g .to-last)) (g .before) in
+      subst Known e (value-known table snd subject (given .taken) xs (g .some-fit) all)
+
+  -- by the value of the subject
+  by-value : (left k : ℕ) (xs : List Fact) → Going s left k xs → (s′ : List ℕ) → Grown limits s s′
+      → (subject-value table subject s (state-of xs) ≡ Open → Adds left k xs s′) → Adds left k xs s′
+  by-value left k xs g s′ l unknown = go (subject-value table subject s (state-of xs)) refl
+    where
+      go : (d : Decision) → subject-value table subject s (state-of xs) ≡ d → Adds left k xs s′
+      go Always e = at-always left k xs (g .some-fit) s′ l e
+      go Never e = at-never left k xs (g .some-fit) s′ l e
+      go Open e = unknown e
+
+  walk-from : (left k : ℕ) (xs : List Fact) → Going s left k xs → (s′ : List ℕ) → Grown limits s s′ → Adds left k xs s′
+  walk-from zero k xs g s′ l = by-value zero k xs g s′ l (λ e. absurd (at-end k xs g e))
+  walk-from (suc left) k xs g s′ l = by-value (suc left) k xs g s′ l
+      (λ e. at-question left k (walk-from left (k + 1)) xs g s′ l e (decide (state-of xs) (question s k)) refl)
+
+-- "start with no facts": the walk over all questions adds the finished diagram of what its subject means
+pub walk-inserts : {limits : Limits} {table : List ℕ} {subject : Subject} {s : List ℕ} → Sound limits s → Given limits table subject s
+    → walk limits table subject (question-count s) 1 start s ≡ insert limits (finished-in s (subject-meaning table subject s)) s
+walk-inserts {limits} {table} {subject} {s} snd given =
+    let none : SettledTo s 1 [] = record { settled = λ j h l. absurd (omega arith) } in
+    walk-from snd given (question-count s) 1 [] record { some-fit = refl; to-last = omega arith; before = none } s (grown-same snd)
