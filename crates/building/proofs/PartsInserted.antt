@@ -1,24 +1,23 @@
 -- Placing two parts one after the other, then their entry, adds the diagram that stands for both: parts that are one diagram have one handle, and adding
 -- that diagram again changes nothing; parts that differ have handles that differ.
-use Prim.Native.Nat.{ℕ, suc, _+_, _≤_, _<_}
-use mathlib.Core.Path.{_≡_, refl, sym, ap, _∙_, subst}
+use Prim.Native.Nat.{ℕ, _+_}
+use mathlib.Core.Path.{_≡_, refl, sym, ap, _∙_}
 use mathlib.Core.Logic.{_≢_}
-use mathlib.Core.Bool.{true, false, cond}
+use mathlib.Core.Bool.{cond}
 use mathlib.Core.List.{List}
 use native.Mathlib.Omega.{arith}
 use borrow.Author.Tests.{eq-eqb, ne-eqb}
-use lib.Dec.{eqb}
 use Rattle.diagram.specs.declared.placing.Placed.{Placed}
 use Rattle.diagram.specs.declared.placing.Placed.the-variants.{At, Full}
 use Rattle.diagram.specs.Finish.{parts}
 use Rattle.diagram.specs.Insert.{an-entry, place-entry, then-place, insert}
 use Rattle.store.specs.declared.limits.Limits.{Limits}
-use Rattle.store.specs.Layout.{question-count, used, leaves}
+use Rattle.store.specs.Layout.{question-count}
 use Rattle.store.specs.Outcome.{Outcome, outcome}
 use Rattle.store.specs.Tree.{Tree, node, tree, Ascending, Reduced}
 use Rattle.walking.specs.Walk.{place-parts}
 use Rattle.diagram.proofs.InsertAgain.{insert-again}
-use Rattle.diagram.proofs.InsertTree.{Grown, Puts, then-cases, insert-puts}
+use Rattle.diagram.proofs.InsertTree.{Puts, then-cases, insert-puts}
 use Rattle.diagram.proofs.Trees.{parts-cases}
 use Rattle.store.proofs.SoundFacts.{Sound}
 use Rattle.store.proofs.SoundTree.{falling}
@@ -51,7 +50,8 @@ module _ {limits : Limits} {s : List ℕ} (snd : Sound limits s) (k : ℕ) (y n 
   p₁ = insert-puts y snd (k + 1) (question-count s) (fy .ascending) (fy .reduced) (omega arith) (omega arith)
 
   p₂ : Puts limits n (insert limits y s .words) (insert limits n (insert limits y s .words))
-  p₂ = insert-puts n (p₁ .grown .sound) (k + 1) (question-count s) (fn .ascending) (fn .reduced) (omega arith) (omega (arith, questions-agree (p₁ .grown .agree)))
+  p₂ = insert-puts n (p₁ .grown .sound) (k + 1) (question-count s) (fn .ascending) (fn .reduced) (omega arith)
+      (omega (arith, questions-agree (p₁ .grown .agree)))
 
   -- the two parts, then their entry
   abbrev pub placed-parts : Outcome Placed
@@ -75,7 +75,8 @@ module _ {limits : Limits} {s : List ℕ} (snd : Sound limits s) (k : ℕ) (y n 
   unfolding insert
   two-parts d = then-same (insert limits y s) (λ hy s₁. then-place (insert limits n s₁) (λ hn s₂. place-parts limits k hy hn s₂))
       (λ hy s₁. then-place (insert limits n s₁) (λ hn s₂. place-entry limits s₂ (an-entry k hy hn)))
-      (λ hy e₁. then-same (insert limits n (insert limits y s .words)) (λ hn s₂. place-parts limits k hy hn s₂) (λ hn s₂. place-entry limits s₂ (an-entry k hy hn))
+      (λ hy e₁. then-same (insert limits n (insert limits y s .words)) (λ hn s₂. place-parts limits k hy hn s₂)
+      (λ hn s₂. place-entry limits s₂ (an-entry k hy hn))
       (λ hn e₂. place-differ limits k hy hn (insert limits n (insert limits y s .words) .words) (handles-differ d hy hn e₁ e₂)))
 
   pub parts-inserted : placed-parts ≡ insert limits (parts k y n) s

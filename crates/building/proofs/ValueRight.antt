@@ -92,7 +92,8 @@ values-length : (st : State) (table : List ℕ) (k : ℕ) → length (row-values
 unfolding row-values
 values-length st table zero = refl
 values-length st table (suc k) =
-    length-append (row-values st table k) (row-value st (λ i. getD (row-values st table k) i Never) (row table k) ∷ []) ∙ omega (arith, values-length st table k)
+    length-append (row-values st table k) (row-value st (λ i. getD (row-values st table k) i Never) (row table k) ∷ [])
+    ∙ omega (arith, values-length st table k)
 
 truths-length : (v : Valuation) (table : List ℕ) (k : ℕ) → length (row-truths v table k) ≡ k
 unfolding row-truths

@@ -1,51 +1,39 @@
 -- The walk adds the finished diagram of its subject: a known value is right, so the finished diagram is that leaf; questions are skipped and asked alike on
 -- both sides; after the last question no value is open; and entries that were added before change no value.
-use Prim.Native.Nat.{ℕ, zero, suc, _+_, _≤_, _<_}
-use mathlib.Core.Path.{_≡_, refl, sym, ap, ap₂, _∙_, subst}
+use Prim.Native.Nat.{ℕ, zero, suc, _+_}
+use mathlib.Core.Path.{_≡_, refl, sym, ap, _∙_, subst}
 use mathlib.Core.Bool.{Bool, true, false}
 use mathlib.Core.List.{List, [], _∷_}
 use native.Mathlib.Omega.{arith}
 use native.Mathlib.Decide.{ℕ-discrete}
 use lib.ListN.{length}
 use Rattle.diagram.specs.declared.placing.Placed.{Placed}
-use Rattle.diagram.specs.declared.placing.Placed.the-variants.{At, Full}
-use Rattle.diagram.specs.Finish.{parts, finish}
-use Rattle.diagram.specs.Insert.{then-place, leaf-handle, insert}
+use Rattle.diagram.specs.Finish.{finish}
+use Rattle.diagram.specs.Insert.{then-place, insert}
 use Rattle.diagram.specs.Questions.{questions-from, finished-in}
 use Rattle.facts.specs.declared.decision.Decision.{Decision}
 use Rattle.facts.specs.declared.decision.Decision.the-variants.{Always, Never, Open}
 use Rattle.facts.specs.Facts.{Fact, fact, Fits, Forces}
 use Rattle.facts.specs.State.{State, free, no-to, yes-to, start, state-of, decide}
-use Rattle.operations.specs.Table.{table-fault}
 use Rattle.store.specs.declared.limits.Limits.{Limits}
-use Rattle.store.specs.Layout.{question-count, question, used, leaves}
-use Rattle.store.specs.Outcome.{Outcome, outcome}
-use Rattle.store.specs.Tree.{Tree, leaf, node, tree}
+use Rattle.store.specs.Layout.{question-count, question}
+use Rattle.store.specs.Outcome.{Outcome}
 use Rattle.terms.specs.declared.term.Equation.{Equation}
-use Rattle.terms.specs.Meaning.{Valuation, truth}
+use Rattle.terms.specs.Meaning.{Valuation}
 use Rattle.walking.specs.declared.subject.Subject.{Subject}
-use Rattle.walking.specs.declared.subject.Subject.the-variants.{Table, Choice}
-use Rattle.walking.specs.Value.{choose-value, tree-value, subject-value}
+use Rattle.walking.specs.Value.{subject-value}
 use Rattle.walking.specs.Walk.{place-parts, walk}
 use Rattle.building.specs.SubjectMeaning.{subject-meaning}
 use Rattle.diagram.proofs.FinishTree.{finish-ascending, finish-reduced}
-use Rattle.diagram.proofs.FinishTruth.{finish-same, finish-constant, forces, yes-free, no-free}
+use Rattle.diagram.proofs.FinishTruth.{forces, yes-free, no-free}
 use Rattle.diagram.proofs.InsertTree.{Grown, insert-puts}
-use Rattle.operations.proofs.RestsOn.{accepts}
 use Rattle.store.proofs.SoundFacts.{Sound}
-use Rattle.store.proofs.SoundTree.{falling}
-use Rattle.store.proofs.StoreWords.{questions-agree, question-agrees, tree-agrees}
+use Rattle.store.proofs.StoreWords.{questions-agree, question-agrees}
 use Rattle.building.proofs.PartsInserted.{then-same, PartAfter, parts-inserted}
-use Rattle.building.proofs.ValueKnown.{Known, Settled, SettledTo, known-table, known-choice}
-use Rattle.building.proofs.ValueRight.{Says, says-table, says-choice}
-
--- the table is one that build takes, or the three handles are handles of the store
-abbrev pub Taken : Limits → List ℕ → Subject → List ℕ → Type 0
-Taken limits table Table s = accepts (table-fault limits s table) ≡ true
-Taken limits table (Choice a b c) s = (a < used s + leaves) × (b < used s + leaves) × (c < used s + leaves)
-
-pub record Given (limits : Limits) (table : List ℕ) (subject : Subject) (s : List ℕ) : Type 0 where
-  pub taken : Taken limits table subject s
+use Rattle.building.proofs.SubjectValue.{Given, value-right, value-known, value-later}
+use Rattle.building.proofs.ValueKnown.{Known, Settled, SettledTo}
+use Rattle.building.proofs.ValueRight.{Says}
+use Rattle.building.proofs.WalkSteps.{walk-always, walk-never, walk-skips, walk-asks, finish-skips, finish-asks, leaf-inserted}
 
 -- ---- stores that grow
 grown-same : {limits : Limits} {s : List ℕ} → Sound limits s → Grown limits s s
@@ -63,73 +51,6 @@ questions-length : (s : List ℕ) (left k : ℕ) → length (questions-from s le
 unfolding questions-from
 questions-length s zero k = refl
 questions-length s (suc left) k = ap suc (questions-length s left (k + 1))
-
--- ---- the value of the subject
-module _ {limits : Limits} (table : List ℕ) {s : List ℕ} (snd : Sound limits s) where
-  value-right : (subject : Subject) → Taken limits table subject s → (xs : List Fact) → free (state-of xs) ≡ true → (v : Valuation) → Fits xs v
-      → Says (subject-value table subject s (state-of xs)) (subject-meaning table subject s v)
-  value-right Table g xs t v h = says-table xs t v h table
-  value-right (Choice a b c) g xs t v h = says-choice xs t v h snd a b c (g .0) (g .1) (g .2) table
-
-  value-known : (subject : Subject) → Taken limits table subject s → (xs : List Fact) → free (state-of xs) ≡ true → SettledTo s (question-count s + 1) xs
-      → Known (subject-value table subject s (state-of xs))
-  value-known Table g xs t all = known-table xs t all limits table g
-  value-known (Choice a b c) g xs t all = known-choice xs t all snd a b c (g .0) (g .1) (g .2) table
-
-  -- entries that were added change no value
-  value-later : {s′ : List ℕ} → Grown limits s s′ → (subject : Subject) → Taken limits table subject s → (st : State)
-      → subject-value table subject s′ st ≡ subject-value table subject s st
-  value-later l Table g st = refl
-  value-later {s′} l (Choice a b c) g st =
-      let ask : question s′ ≡ question s = λ i k. question-agrees (l .agree) k i in
-      let old : (h : ℕ) → h < used s + leaves → tree-value (question s′) (tree s′ h) st ≡ tree-value (question s) (tree s h) st =
-      λ h m. ap₂ (λ f u. tree-value f u st) ask (tree-agrees (l .agree) (falling snd) h m) in
-      λ i. choose-value (old a (g .0) i) (old b (g .1) i) (old c (g .2) i)
-
--- ---- the steps of a walk
-module _ (limits : Limits) (table : List ℕ) (subject : Subject) where
-  walk-always : (left k : ℕ) (st : State) (s : List ℕ) → subject-value table subject s st ≡ Always → walk limits table subject left k st s ≡ outcome (At 1) s
-  unfolding walk
-  walk-always zero k st s e = rw (walk, e) refl
-  walk-always (suc left) k st s e = rw (walk, e) refl
-
-  walk-never : (left k : ℕ) (st : State) (s : List ℕ) → subject-value table subject s st ≡ Never → walk limits table subject left k st s ≡ outcome (At 0) s
-  unfolding walk
-  walk-never zero k st s e = rw (walk, e) refl
-  walk-never (suc left) k st s e = rw (walk, e) refl
-
-  walk-skips : (left k : ℕ) (st : State) (s : List ℕ) → subject-value table subject s st ≡ Open → (d : Decision) → decide st (question s k) ≡ d → Known d
-      → walk limits table subject (suc left) k st s ≡ walk limits table subject left (k + 1) st s
-  unfolding walk
-  walk-skips left k st s e Always f known = rw (walk, e, f) refl
-  walk-skips left k st s e Never f known = rw (walk, e, f) refl
-  walk-skips left k st s e Open f known = absurd known
-
-  walk-asks : (left k : ℕ) (st : State) (s : List ℕ) → subject-value table subject s st ≡ Open → decide st (question s k) ≡ Open
-      → walk limits table subject (suc left) k st s
-      ≡ then-place (walk limits table subject left (k + 1) (yes-to st (question s k)) s)
-      (λ y s₁. then-place (walk limits table subject left (k + 1) (no-to st (question s k)) s₁) (λ n s₂. place-parts limits k y n s₂))
-  unfolding walk
-  walk-asks left k st s e f = rw (walk, e, f) refl
-
--- ---- the steps of a finished diagram
-finish-skips : (q : Equation) (qs : List Equation) (k : ℕ) (st : State) (means : Valuation → Bool) (d : Decision) → decide st q ≡ d → Known d
-    → finish (q ∷ qs) k st means ≡ finish qs (k + 1) st means
-unfolding finish
-finish-skips q qs k st means Always e known = rw (finish, e) refl
-finish-skips q qs k st means Never e known = rw (finish, e) refl
-finish-skips q qs k st means Open e known = absurd known
-
-finish-asks : (q : Equation) (qs : List Equation) (k : ℕ) (st : State) (means : Valuation → Bool) → decide st q ≡ Open
-    → finish (q ∷ qs) k st means ≡ parts k (finish qs (k + 1) (yes-to st q) means) (finish qs (k + 1) (no-to st q) means)
-unfolding finish
-finish-asks q qs k st means e = rw (finish, e) refl
-
--- a meaning with one truth wherever the facts hold is added as a leaf
-leaf-inserted : (limits : Limits) (qs : List Equation) (k : ℕ) (xs : List Fact) (means : Valuation → Bool) (b : Bool) → free (state-of xs) ≡ true
-    → ((v : Valuation) → Fits xs v → means v ≡ b) → (s : List ℕ) → insert limits (finish qs k (state-of xs) means) s ≡ outcome (At (leaf-handle b)) s
-unfolding insert
-leaf-inserted limits qs k xs means b t e s = ap (λ u. insert limits u s) (finish-same qs k xs means (λ _. b) t e ∙ finish-constant qs k (state-of xs) b)
 
 -- ---- the questions that the facts settle
 settled-by : (xs : List Fact) (q : Equation) (d : Decision) → Forces xs q d → Known d → Settled xs q
@@ -157,7 +78,14 @@ record Going (s : List ℕ) (left k : ℕ) (xs : List Fact) : Type 0 where
   before : SettledTo s k xs
 
 module _ {limits : Limits} {table : List ℕ} {subject : Subject} {s : List ℕ} (snd : Sound limits s) (given : Given limits table subject s) where
-  now : {s′ : List ℕ} → Grown limits s s′ → (xs : List Fact) (d : Decision) → subject-value table subject s (state-of xs) ≡ d → subject-value table subject s′ (state-of xs) ≡ d
+  -- the walk adds what is finished from the question with the number k on
+  abbrev Adds : ℕ → ℕ → List Fact → List ℕ → Type 0
+  Adds left k xs s′ =
+      walk limits table subject left k (state-of xs) s′ ≡ insert limits (finish (questions-from s left k) k (state-of xs) (subject-meaning table subject s)) s′
+
+  -- the value on the store as it is now
+  now : {s′ : List ℕ} → Grown limits s s′ → (xs : List Fact) (d : Decision) → subject-value table subject s (state-of xs) ≡ d
+      → subject-value table subject s′ (state-of xs) ≡ d
   now l xs d e = value-later table snd l subject (given .taken) (state-of xs) ∙ e
 
   says : (xs : List Fact) → free (state-of xs) ≡ true → (d : Decision) → subject-value table subject s (state-of xs) ≡ d → (v : Valuation) → Fits xs v
@@ -165,20 +93,13 @@ module _ {limits : Limits} {table : List ℕ} {subject : Subject} {s : List ℕ}
   says xs t d e v h = subst (λ d. Says d (subject-meaning table subject s v)) e (value-right table snd subject (given .taken) xs t v h)
 
   module _ (left k : ℕ) (xs : List Fact) (t : free (state-of xs) ≡ true) (s′ : List ℕ) (l : Grown limits s s′) where
-    at-always : subject-value table subject s (state-of xs) ≡ Always
-        → walk limits table subject left k (state-of xs) s′ ≡ insert limits (finish (questions-from s left k) k (state-of xs) (subject-meaning table subject s)) s′
+    at-always : subject-value table subject s (state-of xs) ≡ Always → Adds left k xs s′
     at-always e = walk-always limits table subject left k (state-of xs) s′ (now l xs Always e)
         ∙ sym (leaf-inserted limits (questions-from s left k) k xs (subject-meaning table subject s) true t (says xs t Always e) s′)
 
-    at-never : subject-value table subject s (state-of xs) ≡ Never
-        → walk limits table subject left k (state-of xs) s′ ≡ insert limits (finish (questions-from s left k) k (state-of xs) (subject-meaning table subject s)) s′
+    at-never : subject-value table subject s (state-of xs) ≡ Never → Adds left k xs s′
     at-never e = walk-never limits table subject left k (state-of xs) s′ (now l xs Never e)
         ∙ sym (leaf-inserted limits (questions-from s left k) k xs (subject-meaning table subject s) false t (says xs t Never e) s′)
-
-  -- the walk adds what is finished from the question with the number k on
-  abbrev Adds : ℕ → ℕ → List Fact → List ℕ → Type 0
-  Adds left k xs s′ =
-      walk limits table subject left k (state-of xs) s′ ≡ insert limits (finish (questions-from s left k) k (state-of xs) (subject-meaning table subject s)) s′
 
   -- the next question, where the walk is right from the one after it
   module _ (left k : ℕ) (later : (xs : List Fact) → Going s left (k + 1) xs → (s′ : List ℕ) → Grown limits s s′ → Adds left (k + 1) xs s′)
@@ -216,8 +137,8 @@ module _ {limits : Limits} {table : List ℕ} {subject : Subject} {s : List ℕ}
         let y = finish qs (k + 1) (yes-to st q) means in
         let n = finish qs (k + 1) (no-to st q) means in
         let walks : State → List ℕ → Outcome Placed = walk limits table subject left (k + 1) in
-        let walked : ℕ → List ℕ → Outcome Placed = λ h s₁. then-place (walks (no-to st q) s₁) (λ hn s₂. place-parts limits k h hn s₂) in
-        let placed : ℕ → List ℕ → Outcome Placed = λ h s₁. then-place (insert limits n s₁) (λ hn s₂. place-parts limits k h hn s₂) in
+        let no-walked : Equation → ℕ → List ℕ → Outcome Placed = λ p h s₁. then-place (walks (no-to st p) s₁) (λ hn s₂. place-parts limits k h hn s₂) in
+        let no-placed : ℕ → List ℕ → Outcome Placed = λ h s₁. then-place (insert limits n s₁) (λ hn s₂. place-parts limits k h hn s₂) in
         let going-yes : Going s left (k + 1) (fact q true ∷ xs) = record {
           some-fit = yes-free xs q (g .some-fit) f;
           to-last = omega (arith, g .to-last);
@@ -233,9 +154,9 @@ module _ {limits : Limits} {table : List ℕ} {subject : Subject} {s : List ℕ}
         let puts = insert-puts y (l .sound) (k + 1) (question-count s′) (fy .ascending) (fy .reduced) (omega arith) (omega arith) in
         let s₁ = insert limits y s′ .words in
         walk-asks limits table subject left k st s′ (now l xs Open e) (here Open f)
-        ∙ ap (λ p. then-place (walks (yes-to st p) s′) (λ h s₁. then-place (walks (no-to st p) s₁) (λ hn s₂. place-parts limits k h hn s₂))) (question-agrees (l .agree) k)
-        ∙ ap (λ o. then-place o walked) (later (fact q true ∷ xs) going-yes s′ l)
-        ∙ then-same (insert limits y s′) walked placed
+        ∙ ap (λ p. then-place (walks (yes-to st p) s′) (no-walked p)) (question-agrees (l .agree) k)
+        ∙ ap (λ o. then-place o (no-walked q)) (later (fact q true ∷ xs) going-yes s′ l)
+        ∙ then-same (insert limits y s′) (no-walked q) no-placed
         (λ h _. ap (λ o. then-place o (λ hn s₂. place-parts limits k h hn s₂)) (later (fact q false ∷ xs) going-no s₁ (grown-on l (puts .grown))))
         ∙ parts-inserted (l .sound) k y n fy fn
         ∙ ap (λ u. insert limits u s′) (sym (finish-asks q qs k st means f))
