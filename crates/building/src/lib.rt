@@ -1,0 +1,1 @@
+// Build, negate, join and choose.
