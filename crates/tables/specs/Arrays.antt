@@ -13,7 +13,7 @@ use Rattle.store.specs.Sound.{sound}
 use Rattle.tables.specs.declared.answer.Written.{Written}
 use Rattle.tables.specs.declared.answer.Written.the-variants.{Rows, TooManyRows, TooShort}
 use Rattle.tables.specs.Rows.{row-length}
-use Rattle.tables.specs.WriteBack.{reachable, marked-before, row-of, written-rows, written-count, most-rows}
+use Rattle.tables.specs.WriteBack.{reachable, marked-before, row-of, entries-rows, written-rows, written-count, most-rows}
 
 -- an index holds all entries, so so many handles are enough
 abbrev pub most-handles : ℕ
@@ -51,6 +51,10 @@ put out at words = take at out ++ words ++ drop (at + length words) out
 -- the rows of the entries come after those of the leaves
 abbrev pub after-leaves : ℕ
 after-leaves = row-length * leaves
+
+-- the rows of the entries reachable from a handle
+abbrev pub reachable-rows : List ℕ → ℕ → List ℕ
+reachable-rows s handle = entries-rows s (reachable s handle) (suc handle - leaves)
 
 -- the words of the i-th entry's two rows, by the rows of the handles
 abbrev pub entry-words : List ℕ → List ℕ → ℕ → List ℕ
