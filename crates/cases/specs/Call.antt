@@ -1,29 +1,65 @@
--- A case: calls one after the other, and what each must answer.
+-- A case: calls one after the other on the words of one store, and what each must leave.
 use Prim.Native.Nat.{ℕ}
 use mathlib.Core.Path.{_≡_}
 use mathlib.Core.List.{List, [], _∷_}
 use lib.IntN.{ℤ}
-use Rattle.terms.specs.Words.{term-limits}
+use Rattle.examples.specs.Example.{example-number}
+use Rattle.examples.specs.Example as examples
+use Rattle.sheets.specs.Read.{read-sheet, read-number, read-result}
+use Rattle.store.specs.Limits.{store-limits}
+use Rattle.store.specs.Open.{open-number, open-store}
+use Rattle.tables.specs.WriteBack as tables
+use Rattle.tables.specs.WriteBack.{written-number, written-result}
 use Rattle.terms.specs.declared.simplification.Answer.{Answer}
 use Rattle.terms.specs.Simplify.{simplify-words, answer}
+use Rattle.terms.specs.Words.{term-limits}
+use Rattle.verdicts.specs.Verdict as verdicts
+use Rattle.verdicts.specs.Verdict.{verdict-number, verdict-result}
 
--- A call of a public operation, with its arguments.
+-- A call of a public operation with its arguments. The store is the words that the call before left.
 pub data Call : Type 0 where
   -- the two term words
   simplify : ℕ → ℕ → Call
+  -- n and the list
+  open-with : ℕ → List ℕ → Call
+  -- a handle, and the sheet
+  read : ℕ → List ℕ → Call
+  -- a handle, and the words lent for the rows
+  write-back : ℕ → List ℕ → Call
+  -- a handle
+  verdict : ℕ → Call
+  -- a handle, and the words lent for the sheet
+  example : ℕ → List ℕ → Call
 
 -- What a call leaves: its answer, and every word lent to it.
 pub data Outcome : Type 0 where
   -- simplify's number, result, two words and gap
   simplified : ℕ → ℕ → ℕ → ℕ → ℤ → Outcome
+  -- number, result, the store's words, and the other words lent
+  answered : ℕ → ℕ → List ℕ → List ℕ → Outcome
 
 abbrev simplified-as : Answer → Outcome
 simplified-as a = simplified (a .number) (a .result) (a .left) (a .right) (a .gap)
 
--- What the calls leave one after the other, each by the definition that its function's promise names, on the words of one store.
+-- What the calls leave one after the other, each by the definition that its function's promise names.
 abbrev pub outcomes : List ℕ → List Call → List Outcome
-outcomes store [] = []
-outcomes store (simplify l r ∷ calls) = simplified-as (answer (simplify-words term-limits l r)) ∷ outcomes store calls
+outcomes s [] = []
+outcomes s (simplify l r ∷ calls) = simplified-as (answer (simplify-words term-limits l r)) ∷ outcomes s calls
+outcomes s (open-with n list ∷ calls) =
+    let o = open-store store-limits n list s in
+    answered (open-number (o .answer)) 0 (o .words) list ∷ outcomes (o .words) calls
+outcomes s (read handle sheet ∷ calls) =
+    let r = read-sheet store-limits s handle sheet in
+    answered (read-number r) (read-result r) s sheet ∷ outcomes s calls
+outcomes s (write-back handle out ∷ calls) =
+    let o = tables.write-back store-limits s handle out in
+    answered (written-number (o .answer)) (written-result (o .answer)) s (o .words) ∷ outcomes s calls
+outcomes s (verdict handle ∷ calls) =
+    let v = verdicts.verdict store-limits s handle in
+    answered (verdict-number v) (verdict-result v) s [] ∷ outcomes s calls
+outcomes s (example handle out ∷ calls) =
+    let o = examples.example store-limits s handle out in
+    answered (example-number (o .answer)) 0 s (o .words) ∷ outcomes s calls
 
 -- A row of the table: the store's words at the start, the calls, and what each must leave.
 pub record Case : Type 0 where

@@ -1,17 +1,14 @@
 -- The decision is right: a settled question is true wherever the facts hold; one whose yes leaves the state free is open, as the choices that
 -- fit the two states show; and of any other no choice that fits makes it true.
-use Prim.Native.Nat.{ℕ}
-use mathlib.Core.Path.{_≡_, refl, sym, _∙_, subst}
-use mathlib.Core.Logic.{_↔_}
-use mathlib.Core.Bool.{Bool, true, false, cond, not, _&&_, true≢false, false≢true}
-use mathlib.Core.List.{List, [], _∷_}
+use mathlib.Core.Path.{_≡_, refl, sym, _∙_}
+use mathlib.Core.Bool.{true, false, cond, true≢false}
+use mathlib.Core.List.{List, _∷_}
 use Rattle.terms.specs.declared.term.Equation.{Equation}
 use Rattle.terms.specs.Meaning.{Valuation, truth}
-use Rattle.terms.proofs.Cases.{by-test}
-use Rattle.facts.specs.declared.decision.Decision.{Decision}
 use Rattle.facts.specs.declared.decision.Decision.the-variants.{Always, Never, Open}
 use Rattle.facts.specs.Facts.{Fact, fact, Fits, Forces}
-use Rattle.facts.specs.State.{State, Fit, settled, free, no-to, yes-to, state-of, decide, some-sheet}
+use Rattle.facts.specs.State.{State, settled, free, no-to, yes-to, state-of, decide, some-sheet}
+use Rattle.terms.proofs.Cases.{by-test}
 use Rattle.facts.proofs.StateExact.{state-exact}
 use Rattle.facts.proofs.StateFree.{fit-free, free-fit, settled-fit, state-of-zero}
 

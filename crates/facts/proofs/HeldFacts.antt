@@ -2,27 +2,26 @@
 -- one, and classes and questions answered no come of the facts' questions.
 use Prim.Native.Nat.{ℕ, zero, suc, _+_, _-_, _*_, _≤_, _<_}
 use mathlib.Core.Path.{_≡_, refl, sym, ap, subst, _∙_}
-use mathlib.Core.Logic.{_≢_, _↔_}
+use mathlib.Core.Logic.{_≢_}
 use mathlib.Core.Bool.{Bool, true, false, cond, true≢false}
 use mathlib.Core.List.{List, [], _∷_}
 use native.Mathlib.Omega.{arith}
 use native.Mathlib.Decide.{ℕ-discrete}
-use lib.ListN.{length, getD}
+use lib.ListN.{length}
 use Rattle.terms.specs.declared.term.Equation.{Equation}
-use Rattle.terms.specs.Meaning.{Valuation, truth}
-use Rattle.terms.proofs.Cases.{by-eq, by-test}
 use Rattle.facts.specs.declared.decision.Decision.{Decision}
 use Rattle.facts.specs.declared.decision.Decision.the-variants.{Always, Never, Open}
 use Rattle.facts.specs.declared.decision.Plan.the-variants.{Clash}
 use Rattle.facts.specs.declared.record.Facts.{Facts}
 use Rattle.facts.specs.declared.working.Asked.{Asked}
 use Rattle.facts.specs.Facts.{Fact, fact, Fits, Forces}
-use Rattle.facts.specs.Least.{IsLeast, Near, All, RestsOn, least-sheet}
+use Rattle.facts.specs.Least.{IsLeast, Near, All, RestsOn, least-count, fixed, least-sheet}
 use Rattle.facts.specs.Record.{state, last-field, most-noes, most-steps, most-offset, question-at, noes-in, Small, AllSmall, Holds, Within, Ready, AskedOf}
 use Rattle.facts.specs.State.{State, at, Fit, settled, free, left-side, right-side, joined, planned, certain, no-to, yes-to, work-in, start, state-of, decide}
+use Rattle.terms.proofs.Cases.{by-eq, by-test}
 use Rattle.facts.proofs.Decided.{decided, no-to-free}
 use Rattle.facts.proofs.LeastBound.{least-bound}
-use Rattle.facts.proofs.LeastSheet.{least-sheet-least}
+use Rattle.facts.proofs.LeastSheet.{fixed-at, fixed-down, least-sheet-fits, least-sheet-least}
 use Rattle.facts.proofs.PlanCases.{plan-cases}
 use Rattle.facts.proofs.StateExact.{state-exact}
 use Rattle.facts.proofs.StateFree.{state-of-zero}
@@ -61,7 +60,7 @@ work-in-tame s q true small t =
     (λ _ _ _. joined-tame s p r (a - c) left t) (λ _ _ _. clash)
     (λ _ _ _. joined-tame s r p (c - a) right t)
 
-small-more : {m n : ℕ} {q : Equation} → m ≤ n → Small m q → Small n q
+pub small-more : {m n : ℕ} {q : Equation} → m ≤ n → Small m q → Small n q
 small-more h s = record { left-in = s .left-in; right-in = s .right-in; left-steps = omega (arith, s .left-steps); right-steps = omega (arith, s .right-steps) }
 
 state-of-tame : (k : ℕ) (xs : List Fact) → k ≤ most-steps → AllSmall k xs → Tame (state-of xs)
@@ -102,6 +101,20 @@ offset-bound m xs a t k h =
     let v = least-sheet last-field (state-of xs) in
     let is : IsLeast last-field (Fit (state-of xs)) v = least-sheet-least last-field (state-of xs) (state-of-zero xs) t in
     omega (arith, is .meets .classed .at-field k, least-bound last-field m (questions xs) (Fit (state-of xs)) (questions-near m xs a) (fit-rests xs) v is k h)
+
+-- ---- counts of the least sheet
+pub least-counts-bound : (k : ℕ) (xs : List Fact) → AllSmall k xs → free (state-of xs) ≡ true → (m : ℕ) → m < last-field
+    → least-count (fixed m (state-of xs)) (suc m) ≤ last-field * (k + 1)
+least-counts-bound k xs a t m h =
+    let s = state-of xs in
+    let v = least-sheet last-field s in
+    let zero-kept = state-of-zero xs in
+    let is : IsLeast last-field (Fit s) v = least-sheet-least last-field s zero-kept t in
+    omega (
+      arith,
+      least-bound last-field k (questions xs) (Fit s) (questions-near k xs a) (fit-rests xs) v is (suc m) h,
+      fixed-at m s v (fixed-down last-field (suc m) s v h (least-sheet-fits last-field s zero-kept t)),
+    )
 
 -- ---- the record
 -- a yes that leaves the state free leaves a record that some choice of counts fits

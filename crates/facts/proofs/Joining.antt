@@ -1,21 +1,20 @@
 -- A join field by field: the fields up to i are as the joined classes have them, the rest as before; after all of them the record stands for
 -- the joined state, since a field beyond the arrays is in no class that is joined.
-use Prim.Native.Nat.{ℕ, zero, suc, _+_, _≤_, _<_, _^_}
-use mathlib.Core.Path.{_≡_, refl, sym, ap, ap₂, _∙_, fun-ext}
+use Prim.Native.Nat.{ℕ, _+_, _≤_, _<_, _^_}
+use mathlib.Core.Path.{_≡_, refl, ap, _∙_, fun-ext}
 use mathlib.Core.Logic.{_≢_}
-use mathlib.Core.Bool.{Bool, true, false, cond}
-use mathlib.Core.List.{List}
+use mathlib.Core.Bool.{false, cond}
 use native.Mathlib.Omega.{arith}
 use native.Mathlib.Decide.{decLe, ℕ-discrete}
 use borrow.Author.Tests.{eq-eqb, ne-eqb}
 use lib.Dec.{eqb}
 use lib.ListN.{length, getD, set, length-set}
 use lib.Seq.{getD-set-same, getD-set-other}
-use Rattle.terms.proofs.Cases.{by-eq}
 use Rattle.facts.specs.declared.decision.Plan.the-variants.{Join}
 use Rattle.facts.specs.declared.record.Facts.{Facts}
 use Rattle.facts.specs.Record.{state, last-field, CanRaise, field-moved, field-joined, noes-in}
-use Rattle.facts.specs.State.{State, planned}
+use Rattle.facts.specs.State.{planned}
+use Rattle.terms.proofs.Cases.{by-eq}
 use Rattle.facts.proofs.Numbered.{getD-beyond}
 use Rattle.facts.proofs.RecordWays.{getD-inside}
 

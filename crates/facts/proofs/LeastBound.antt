@@ -1,20 +1,20 @@
 -- No count of the least sheet is above n × (k + 1), for n fields and gaps up to k: sorted with 0 among them, neighbouring counts are at most
 -- k + 1 apart, or else all counts above the space could be one less and every question would keep its truth.
 use Prim.Native.Nat.{ℕ, zero, suc, _+_, _-_, _*_, _≤_, _<_}
-use mathlib.Core.Path.{_≡_, refl, sym, ap, _∙_}
-use mathlib.Core.Logic.{_≢_, _⊎_, inl, inr}
-use mathlib.Core.Bool.{Bool, true, false, cond}
+use mathlib.Core.Path.{_≡_, refl, ap}
+use mathlib.Core.Logic.{_⊎_, inl, inr}
+use mathlib.Core.Bool.{cond}
 use mathlib.Core.List.{List, [], _∷_}
 use native.Mathlib.Omega.{arith}
 use native.Mathlib.Decide.{decLe}
 use lib.Dec.{leb, eqb}
 use Rattle.terms.specs.declared.term.Equation.{Equation}
-use Rattle.terms.specs.Meaning.{Valuation, count, value, truth}
+use Rattle.terms.specs.Meaning.{Valuation, count, truth}
 use Rattle.terms.specs.Words.{field}
-use Rattle.terms.proofs.Cases.{by-eq, by-le}
-use Rattle.terms.proofs.SimplifyTruth.{count-zero, same-test}
 use Rattle.facts.specs.State.{at}
 use Rattle.facts.specs.Least.{IsLeast, Near, All, RestsOn}
+use Rattle.terms.proofs.Cases.{by-eq, by-le}
+use Rattle.terms.proofs.SimplifyTruth.{count-zero, same-test}
 
 -- ---- every count above t one less
 sunk : Valuation → ℕ → Valuation

@@ -1,20 +1,18 @@
 -- Fixing each field in turn at the least count that leaves the state free gives the least sheet: any sheet that agrees on the fields before
 -- could be fixed there too, so its count is no smaller.
-use Prim.Native.Nat.{ℕ, zero, suc, _+_, _-_, _≤_, _<_}
+use Prim.Native.Nat.{ℕ, zero, suc, _+_, _≤_, _<_}
 use mathlib.Core.Path.{_≡_, refl, sym, ap, _∙_, subst}
 use mathlib.Core.Logic.{_≢_}
-use mathlib.Core.Bool.{Bool, true, false, cond, true≢false}
-use mathlib.Core.List.{List, [], _∷_}
+use mathlib.Core.Bool.{Bool, true, cond, true≢false}
 use native.Mathlib.Omega.{arith}
 use native.Mathlib.Decide.{decLe}
 use borrow.Author.Tests.{eqb-true, eq-eqb}
-use Rattle.terms.specs.declared.term.Equation.{Equation}
 use Rattle.terms.specs.Meaning.{Valuation, value, truth}
 use Rattle.terms.specs.Words.{field}
-use Rattle.terms.proofs.Cases.{by-test}
-use Rattle.terms.proofs.SimplifyTruth.{count-zero}
 use Rattle.facts.specs.State.{State, at, Fit, free, yes-to, some-sheet}
 use Rattle.facts.specs.Least.{IsLeast, counts, first-from, can-count, least-count, fixed, least-sheet}
+use Rattle.terms.proofs.Cases.{by-test}
+use Rattle.terms.proofs.SimplifyTruth.{count-zero}
 use Rattle.facts.proofs.StateExact.{yes-in, yes-out}
 use Rattle.facts.proofs.StateFree.{ZeroKept, fit-free, free-fit, work-in-zero}
 
@@ -62,7 +60,7 @@ unfolding fixed
 fixed-free zero s z t = t
 fixed-free (suc n) s z t = least-count-can (fixed n s) (fixed-zero n s z) (fixed-free n s z t) (suc n)
 
-fixed-down : (n m : ℕ) (s : State) (v : Valuation) → m ≤ n → Fit (fixed n s) v → Fit (fixed m s) v
+pub fixed-down : (n m : ℕ) (s : State) (v : Valuation) → m ≤ n → Fit (fixed n s) v → Fit (fixed m s) v
 unfolding fixed
 fixed-down zero m s v l k = let e : 0 ≡ m = omega arith in subst (λ j. Fit (fixed j s) v) e k
 fixed-down (suc n) m s v l k = elim (decLe m n) [

@@ -10,3 +10,5 @@ pub mod RecordWays
 pub mod Joining
 pub mod WorkedRecord
 pub mod HeldFacts
+pub mod LeastWays
+pub mod Examples

@@ -1,15 +1,14 @@
 -- The record after its first i fields have been given their own numbers as classes; after all of them it stands for no facts.
 use Prim.Native.Nat.{ℕ, zero, suc, _+_, _≤_, _<_}
-use mathlib.Core.Path.{_≡_, refl, sym, ap, ap₂, _∙_, fun-ext}
-use mathlib.Core.Logic.{_≢_}
+use mathlib.Core.Path.{_≡_, refl, _∙_, fun-ext}
 use mathlib.Core.List.{List, [], _∷_}
 use native.Mathlib.Omega.{arith}
 use native.Mathlib.Decide.{decLe, ℕ-discrete}
 use lib.ListN.{length, getD, set, replicate, length-set}
 use lib.Seq.{getD-set-same, getD-set-other}
 use Rattle.facts.specs.declared.record.Facts.{Facts}
-use Rattle.facts.specs.Record.{state, last-field, noes-in}
-use Rattle.facts.specs.State.{State, start}
+use Rattle.facts.specs.Record.{state, noes-in}
+use Rattle.facts.specs.State.{start}
 
 pub record Numbered (i : ℕ) (f : Facts) : Type 0 where
   pub up-to : i ≤ 17

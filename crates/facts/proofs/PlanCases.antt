@@ -6,10 +6,10 @@ use mathlib.Core.Bool.{Bool, true, false, cond, _&&_}
 use native.Mathlib.Omega.{arith}
 use lib.Dec.{eqb, leb}
 use Rattle.terms.specs.declared.term.Equation.{Equation}
-use Rattle.terms.proofs.Cases.{by-eq, by-le}
 use Rattle.facts.specs.declared.decision.Plan.{Plan}
 use Rattle.facts.specs.declared.decision.Plan.the-variants.{Keep, Clash, Join}
 use Rattle.facts.specs.State.{Classes, left-side, right-side, settled, plan}
+use Rattle.terms.proofs.Cases.{by-eq, by-le}
 
 pub plan-cases : (P : Plan → Type 0) (p t a c : ℕ)
     → (p ≡ t → a ≡ c → P Keep)

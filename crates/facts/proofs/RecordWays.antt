@@ -1,22 +1,22 @@
 -- The arrays of a record and its state agree: within the arrays an element is what the state gives, beyond them a field is its own class.
-use Prim.Native.Nat.{ℕ, zero, suc, _+_, _-_, _≤_, _<_}
-use mathlib.Core.Path.{_≡_, refl, sym, ap, ap₂, _∙_, fun-ext}
+use Prim.Native.Nat.{ℕ, zero, suc, _+_, _≤_, _<_}
+use mathlib.Core.Path.{_≡_, refl, sym, ap, ap₂, _∙_}
 use mathlib.Core.Logic.{_≢_}
 use mathlib.Core.Bool.{Bool, true, false, and-false}
 use mathlib.Core.List.{List, [], _∷_}
 use native.Mathlib.Omega.{arith}
 use native.Mathlib.Decide.{ℕ-discrete}
+use native.Mathlib.Numerals.{add-one}
 use borrow.Author.Tests.{eq-eqb, ne-eqb}
 use lib.Dec.{eqb}
 use lib.ListN.{length, getD, set}
 use lib.Seq.{getD-set-same, getD-set-other}
-use native.Mathlib.Numerals.{add-one}
 use Rattle.terms.specs.Words.{equation, word-of}
-use Rattle.terms.proofs.TermWords.{term-of-word-of}
 use Rattle.terms.specs.declared.term.Equation.{Equation}
 use Rattle.facts.specs.declared.record.Facts.{Facts}
 use Rattle.facts.specs.Record.{state, last-field, most-noes, most-steps, question-at, noes-in, Small, Within, most-joined, Side, field-moved, field-joined}
-use Rattle.facts.specs.State.{State, left-side, right-side, settled, none-settled, free, no-to}
+use Rattle.facts.specs.State.{left-side, right-side, settled, none-settled, free, no-to}
+use Rattle.terms.proofs.TermWords.{term-of-word-of}
 
 -- inside a list the default does not matter, beyond it it is the value
 pub getD-inside : (xs : List ℕ) (k d e : ℕ) → k < length xs → getD xs k d ≡ getD xs k e

@@ -1,8 +1,8 @@
 -- Working an answer in is exact: a yes sets one class's base above another's, which is what the question says of the bases, and a no is listed.
-use Prim.Native.Nat.{ℕ, zero, suc, _+_, _-_, _≤_, _<_}
+use Prim.Native.Nat.{ℕ, _+_, _-_}
 use mathlib.Core.Path.{_≡_, refl, sym, ap, _∙_}
 use mathlib.Core.Logic.{_≢_, _↔_}
-use mathlib.Core.Bool.{Bool, true, false, cond, true≢false}
+use mathlib.Core.Bool.{Bool, true, false, cond}
 use mathlib.Core.List.{List, [], _∷_}
 use native.Mathlib.Omega.{arith}
 use borrow.Author.Tests.{eqb-true, eqb-false, eq-eqb, ne-eqb}
@@ -10,10 +10,10 @@ use lib.Dec.{eqb}
 use Rattle.terms.specs.declared.term.Equation.{Equation}
 use Rattle.terms.specs.Meaning.{Valuation, value, truth}
 use Rattle.terms.specs.Words.{field}
+use Rattle.facts.specs.Facts.{Fact, Fits}
+use Rattle.facts.specs.State.{Classes, State, at, Classed, Fit, left-side, right-side, joined, certain, planned, no-to, yes-to, work-in, start, state-of}
 use Rattle.terms.proofs.Cases.{by-eq}
 use Rattle.terms.proofs.SimplifyTruth.{count-zero}
-use Rattle.facts.specs.Facts.{Fact, Fits}
-use Rattle.facts.specs.State.{Classes, State, at, Classed, Fit, left-side, right-side, joined, certain, planned, no-to, yes-to, work-in, start, state-of, plan-of}
 use Rattle.facts.proofs.PlanCases.{plan-cases}
 
 -- ---- a question, said of the bases

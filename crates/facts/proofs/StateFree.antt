@@ -1,22 +1,22 @@
 -- A free state is fitted by some choice of counts: with the classes' bases far apart, a question across two classes is false, and one within a
 -- class is decided by the offsets. A state that is not free is fitted by none.
-use Prim.Native.Nat.{ℕ, zero, suc, _+_, _-_, _*_, _/_, _≤_, _<_}
+use Prim.Native.Nat.{ℕ, _+_, _-_, _*_, _/_, _≤_, _<_}
 use mathlib.Core.Path.{_≡_, refl, sym, ap, _∙_}
 use mathlib.Core.Logic.{_≢_}
 use mathlib.Core.Bool.{Bool, true, false, cond, not, _&&_, true≢false, false≢true}
 use mathlib.Core.List.{List, [], _∷_}
 use native.Mathlib.Omega.{arith}
-use borrow.Author.Tests.{eqb-true, eq-eqb, ne-eqb}
+use borrow.Author.Tests.{ne-eqb}
 use lib.Arith.{digits-div}
 use lib.Dec.{eqb}
 use Rattle.terms.specs.declared.term.Equation.{Equation}
-use Rattle.terms.specs.Meaning.{Valuation, count, value, truth}
+use Rattle.terms.specs.Meaning.{Valuation, count, truth}
 use Rattle.terms.specs.Words.{field}
+use Rattle.facts.specs.Facts.{Fact}
+use Rattle.facts.specs.State.{Classes, State, AllFalse, Classed, Fit, left-side, right-side, settled, none-settled, free, joined, planned, work-in, state-of, spacing, some-sheet}
 use Rattle.terms.proofs.Cases.{by-eq, by-test}
-use Rattle.facts.specs.Facts.{Fact, Fits}
-use Rattle.facts.specs.State.{Classes, State, at, AllFalse, Classed, Fit, left-side, right-side, settled, none-settled, free, joined, certain, planned, no-to, yes-to, work-in, start, state-of, plan-of, spacing, some-sheet}
 use Rattle.facts.proofs.PlanCases.{plan-cases, settled-cases}
-use Rattle.facts.proofs.StateExact.{On-bases, on-bases, from-bases}
+use Rattle.facts.proofs.StateExact.{on-bases, from-bases}
 
 -- ---- fitted, so free
 settled-true : {c : Classes} {b : ℕ → ℕ} {v : Valuation} → Classed c b v → (q : Equation) → settled c q ≡ true → truth v q ≡ true

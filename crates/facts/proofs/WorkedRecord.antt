@@ -1,25 +1,23 @@
 -- A yes worked into a record: the plan that the code makes is the state's, and what it joins stays within bounds.
-use Prim.Native.Nat.{ℕ, zero, suc, _+_, _-_, _≤_, _<_, _^_}
+use Prim.Native.Nat.{ℕ, zero, suc, _+_, _≤_, _<_, _^_}
 use mathlib.Core.Path.{_≡_, refl, sym, ap, subst, _∙_}
 use mathlib.Core.Logic.{_≢_}
 use mathlib.Core.Bool.{Bool, true, false, cond, true≢false, false≢true}
-use mathlib.Core.List.{List, [], _∷_}
+use mathlib.Core.List.{List, _∷_}
 use native.Mathlib.Omega.{arith}
 use native.Mathlib.Decide.{ℕ-discrete}
 use borrow.Author.Tests.{eq-eqb}
-use lib.Dec.{eqb}
 use lib.ListN.{length, getD}
 use Rattle.terms.specs.declared.term.Equation.{Equation}
-use Rattle.terms.proofs.Cases.{by-eq}
 use Rattle.facts.specs.declared.decision.Decision.{Decision}
 use Rattle.facts.specs.declared.decision.Decision.the-variants.{Always, Never, Open}
 use Rattle.facts.specs.declared.decision.Plan.{Plan}
 use Rattle.facts.specs.declared.decision.Plan.the-variants.{Keep, Clash, Join}
 use Rattle.facts.specs.declared.record.Facts.{Facts}
-use Rattle.facts.specs.declared.working.Asked.{Asked}
 use Rattle.facts.specs.declared.working.Worked.{Worked}
 use Rattle.facts.specs.Record.{state, last-field, most-steps, most-offset, most-joined, question-at, noes-in, Small, Within, Ready, Side, WorkedYes, AskedOf}
 use Rattle.facts.specs.State.{State, left-side, right-side, settled, free, plan, plan-of, planned, yes-to, decide}
+use Rattle.terms.proofs.Cases.{by-eq}
 use Rattle.facts.proofs.PlanCases.{plan-cases}
 use Rattle.facts.proofs.RecordWays.{small-side-left, small-side-right}
 

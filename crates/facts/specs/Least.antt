@@ -1,13 +1,12 @@
 -- The first sheet that fits some facts (document 01, "the least satisfying sheet, field 1 compared first").
 use Prim.Native.Nat.{ℕ, zero, suc, _+_, _≤_, _<_}
 use mathlib.Core.Path.{_≡_}
-use mathlib.Core.Bool.{Bool, true, cond}
+use mathlib.Core.Bool.{Bool, cond}
 use mathlib.Core.List.{List, [], _∷_}
 use Rattle.terms.specs.declared.term.Equation.{Equation}
 use Rattle.terms.specs.Meaning.{Valuation, truth}
 use Rattle.terms.specs.Words.{field, steps, term, equation}
-use Rattle.facts.specs.Facts.{Fact, fact, Fits}
-use Rattle.facts.specs.State.{at, free, yes-to, State, state-of, some-sheet}
+use Rattle.facts.specs.State.{at, free, yes-to, State, some-sheet}
 
 -- v meets the condition, and no choice of counts that does is before it: where another first differs among the fields 1 to n, it is larger
 pub record IsLeast (n : ℕ) (Meets : Valuation → Type 0) (v : Valuation) : Type 0 where

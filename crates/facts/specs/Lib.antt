@@ -2,3 +2,4 @@ pub mod Facts
 pub mod State
 pub mod Least
 pub mod Record
+pub mod LeastRecord

@@ -1,11 +1,16 @@
 // The facts gathered along a path, and what they force.
 mod decision;
+mod least;
 mod record;
 mod working;
 
 pub use decision::Decision;
 pub use decision::Plan;
 pub use decision::plan_yes;
+pub use least::Fixed;
+pub use least::Sheet;
+pub use least::least_sheet;
+pub use record::FIELDS;
 pub use record::Facts;
 pub use record::class_of;
 pub use record::no_facts;

@@ -5,4 +5,9 @@ pub mod SoundTree
 pub mod TreePaths
 pub mod StoreWords
 pub mod SoundList
-pub mod ListWays
+pub mod OpenAccepts
+pub mod ListQuestions
+pub mod OpenedWords
+pub mod OpenSound
+pub mod OpenWays
+pub mod WriteLaws

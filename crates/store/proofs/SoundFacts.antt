@@ -49,14 +49,14 @@ accepted-says NotSimplified e = absurd (false≢true e)
 accepted-says NotAbove e = absurd (false≢true e)
 accepted-says TooShort e = absurd (false≢true e)
 
-same-entry-says : (d e : Entry) → spec.same-entry d e ≡ true → d ≡ e
+pub same-entry-says : (d e : Entry) → spec.same-entry d e ≡ true → d ≡ e
 same-entry-says d e t =
     let q : d .question ≡ e .question = eqb-true _ _ (passes (eqb (d .question) (e .question)) (λ f. rw f at t)) in
     let y : d .yes-to ≡ e .yes-to = eqb-true _ _ (passes (eqb (d .yes-to) (e .yes-to)) (λ f. simp (f, and-false) at t)) in
     let n : d .no-to ≡ e .no-to = eqb-true _ _ (passes (eqb (d .no-to) (e .no-to)) (λ f. simp (f, and-false) at t)) in
     λ i. record { question = q i; yes-to = y i; no-to = n i }
 
-same-entry-from : (d e : Entry) → d ≡ e → spec.same-entry d e ≡ true
+pub same-entry-from : (d e : Entry) → d ≡ e → spec.same-entry d e ≡ true
 same-entry-from d e p = simp (eq-eqb _ _ (ap (λ x. x .question) p), eq-eqb _ _ (ap (λ x. x .yes-to) p), eq-eqb _ _ (ap (λ x. x .no-to) p))
 
 module _ (s : List ℕ) where

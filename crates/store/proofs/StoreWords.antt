@@ -23,7 +23,7 @@ pub record Agree (s s′ : List ℕ) (m : ℕ) : Type 0 where
   pub word : (k : ℕ) → k < entries-start s + 3 * m → k ≢ 2 → getD s′ k 0 ≡ getD s k 0
 
 -- a word of the list, as a word of the store
-list-word : (s : List ℕ) (k : ℕ) → k < 2 * question-count s → getD (list-words s) k 0 ≡ getD s (heading-length + k) 0
+pub list-word : (s : List ℕ) (k : ℕ) → k < 2 * question-count s → getD (list-words s) k 0 ≡ getD s (heading-length + k) 0
 list-word s k h = getD-take (2 * question-count s) (drop heading-length s) k 0 h ∙ getD-drop heading-length s k 0
 
 -- a question's two words stand in the list

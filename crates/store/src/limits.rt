@@ -1,6 +1,7 @@
 // What a store may hold.
 ghost use mathlib.Core.Path.{_≡_};
 ghost use Rattle.store.specs.Limits as spec;
+use terms::Field;
 use terms::TermLimits;
 use terms::term_limits;
 
@@ -20,5 +21,16 @@ pub fn limits_of_store() -> Limits
         terms,
         questions: 20,
         entries: 4096,
+    }
+}
+
+// The limits of a term in a store of n fields.
+pub fn terms_within(limits: Limits, n: u32) -> TermLimits
+    ensures { λ r. ⌜ r ≡ spec.terms-within limits n ⌝ }
+{
+    let steps = limits.terms.steps;
+    TermLimits {
+        field: Field(n),
+        steps,
     }
 }

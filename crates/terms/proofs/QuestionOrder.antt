@@ -6,7 +6,7 @@ use mathlib.Core.Logic.{_≢_, _⊎_, inl, inr}
 use mathlib.Core.Bool.{Bool, true, false, false≢true, _&&_, _||_}
 use mathlib.Core.List.{List, [], _∷_}
 use native.Mathlib.Omega.{arith}
-use borrow.Author.Tests.{lt-ltb, le-ltb, eq-eqb}
+use borrow.Author.Tests.{lt-ltb, le-ltb, eq-eqb, ne-eqb}
 use lib.Dec.{eqb}
 use lib.ListN.{length}
 use Rattle.terms.specs.declared.term.Equation.{Equation}
@@ -15,13 +15,17 @@ use Rattle.terms.proofs.Cases.{by-eq, by-lt}
 use Rattle.terms.proofs.Numbers.{same-equation}
 
 -- the first numbers decide, or the rest does
-lex-less : (x y : ℕ) (xs ys : List ℕ) → x < y → lex (x ∷ xs) (y ∷ ys) ≡ true
+pub lex-less : (x y : ℕ) (xs ys : List ℕ) → x < y → lex (x ∷ xs) (y ∷ ys) ≡ true
 unfolding lex
 lex-less x y xs ys h = simp (lt-ltb x y h)
 
-lex-equal : (x y : ℕ) (xs ys : List ℕ) → x ≡ y → lex (x ∷ xs) (y ∷ ys) ≡ lex xs ys
+pub lex-equal : (x y : ℕ) (xs ys : List ℕ) → x ≡ y → lex (x ∷ xs) (y ∷ ys) ≡ lex xs ys
 unfolding lex
 lex-equal x y xs ys e = simp (le-ltb x y (omega arith), eq-eqb x y e)
+
+pub lex-more : (x y : ℕ) (xs ys : List ℕ) → y < x → lex (x ∷ xs) (y ∷ ys) ≡ false
+unfolding lex
+lex-more x y xs ys h = simp (le-ltb x y (omega arith), ne-eqb x y (λ e. omega arith))
 
 lex-cases : (P : Bool → Type 0) (x y : ℕ) (xs ys : List ℕ) → (x < y → P true) → (x ≡ y → P (lex xs ys)) → (y < x → P false) → P (lex (x ∷ xs) (y ∷ ys))
 unfolding lex
@@ -29,12 +33,12 @@ lex-cases P x y xs ys f g h =
     by-lt (λ t. P (t || (eqb x y && lex xs ys))) x y f
     (λ l. by-eq (λ t. P (t && lex xs ys)) x y g (λ n. h (omega arith)))
 
-lex-irreflexive : (xs : List ℕ) → lex xs xs ≡ false
+pub lex-irreflexive : (xs : List ℕ) → lex xs xs ≡ false
 unfolding lex
 lex-irreflexive [] = refl
 lex-irreflexive (x ∷ xs) = lex-equal x x xs xs refl ∙ lex-irreflexive xs
 
-lex-transitive : (xs ys zs : List ℕ) → lex xs ys ≡ true → lex ys zs ≡ true → lex xs zs ≡ true
+pub lex-transitive : (xs ys zs : List ℕ) → lex xs ys ≡ true → lex ys zs ≡ true → lex xs zs ≡ true
 unfolding lex
 lex-transitive [] ys zs a b = absurd (false≢true a)
 lex-transitive (x ∷ xs) [] zs a b = absurd (false≢true a)
@@ -48,7 +52,7 @@ lex-transitive (x ∷ xs) (y ∷ ys) (z ∷ zs) a b =
     then : (y < z → lex (x ∷ xs) (z ∷ zs) ≡ true) → (y ≡ z → lex ys zs ≡ true → lex (x ∷ xs) (z ∷ zs) ≡ true) → lex (x ∷ xs) (z ∷ zs) ≡ true
     then f g = lex-cases (λ t. t ≡ true → lex (x ∷ xs) (z ∷ zs) ≡ true) y z ys zs (λ k _. f k) g (λ _ t. absurd (false≢true t)) b
 
-lex-total : (xs ys : List ℕ) → length xs ≡ length ys → xs ≢ ys → (lex xs ys ≡ true) ⊎ (lex ys xs ≡ true)
+pub lex-total : (xs ys : List ℕ) → length xs ≡ length ys → xs ≢ ys → (lex xs ys ≡ true) ⊎ (lex ys xs ≡ true)
 lex-total [] [] l n = absurd (n refl)
 lex-total [] (y ∷ ys) l n = absurd (omega arith)
 lex-total (x ∷ xs) [] l n = absurd (omega arith)

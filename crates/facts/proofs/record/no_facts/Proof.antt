@@ -1,13 +1,11 @@
 -- `no_facts` meets its contract: once every field has its own number as its class, the record stands for no facts.
+use Prim.Native.Nat.{_-_}
 use mathlib.Core.Path.{refl}
 use native.Mathlib.Omega.{arith}
 use borrow.Author.Needs.{needs}
-use Prim.Native.Nat.{_-_}
 use Rattle.facts.proofs.Numbered.{Numbered, number-next, numbered-start}
 use Rattle.facts.proofs.record.no_facts.Statement.{statement}
 use Rattle.facts.proofs.record.no_facts.Tie as tie
-use Rattle.facts.proofs.record.no_facts.Reads as reads
-use Rattle.facts.proofs.record.no_facts.Lts as lts
 
 abbrev Inv-loop : tie.InvT-loop
 Inv-loop f₀ i₀ f i = Numbered i f
@@ -15,35 +13,27 @@ Inv-loop f₀ i₀ f i = Numbered i f
 abbrev μ-loop : tie.MeasureT-loop
 μ-loop f₀ i₀ f i = 17 - i
 
--- src/record.rt:35:5
 loop-holds : tie.Need-loop-holds Inv-loop μ-loop
 loop-holds c = record { up-to = search needs; size = refl; own = λ k h. absurd (omega (arith, h)); offsets = refl; noes-none = refl }
 
--- src/record.rt:36:22
 cast-f : tie.Need-cast-f Inv-loop μ-loop
 cast-f c = search needs
 
--- src/record.rt:36:9
 mul-f : tie.Need-mul-f Inv-loop μ-loop
 mul-f c = search needs
 
--- src/record.rt:36:9
 element-write-f : tie.Need-element-write-f Inv-loop μ-loop
 element-write-f c = search needs
 
--- src/record.rt:37:9
 add-i : tie.Need-add-i Inv-loop μ-loop
 add-i c = search needs
 
--- src/record.rt:35:5
 loop-less : tie.Need-loop-less Inv-loop μ-loop
 loop-less c = search needs
 
--- src/record.rt:35:5
 loop-again : tie.Need-loop-again Inv-loop μ-loop
 loop-again c = search (needs, number-next)
 
--- src/record.rt:24:1
 returns : tie.Need-returns Inv-loop μ-loop
 returns c = search (needs, numbered-start)
 

@@ -1,34 +1,24 @@
 -- `is_settled` meets its contract: the code compares what the definition compares.
-use Rattle.facts.proofs.RecordWays.{settled-sides, settled-apart}
 use borrow.Author.Needs.{needs}
+use Rattle.facts.proofs.RecordWays.{settled-sides, settled-apart}
 use Rattle.facts.proofs.working.is_settled.Statement.{statement}
 use Rattle.facts.proofs.working.is_settled.Tie as tie
-use Rattle.facts.proofs.working.is_settled.Reads as reads
-use Rattle.facts.proofs.working.is_settled.Lts as lts
-use Rattle.facts.proofs.record.class_of.Reads as class-of-reads
-use Rattle.facts.proofs.working.side.Reads as side-reads
 
--- src/working.rt:45:8
 class-of-requires : tie.Need-class-of-requires
 class-of-requires c κs = search needs
 
--- src/working.rt:45:37
 class-of-requires-2 : tie.Need-class-of-requires-2
 class-of-requires-2 c κs = search needs
 
--- src/working.rt:46:16
 side-requires : tie.Need-side-requires
 side-requires c κs = search needs
 
--- src/working.rt:46:35
 side-requires-2 : tie.Need-side-requires-2
 side-requires-2 c κs = search needs
 
--- src/working.rt:46:9
 returns : tie.Need-returns
 returns c = search (needs, settled-sides)
 
--- src/working.rt:40:1
 returns-2 : tie.Need-returns-2
 returns-2 c = search (needs, settled-apart)
 

@@ -1,12 +1,9 @@
 -- `join` meets its contract: each turn joins one field, and after all of them the classes are joined.
-use borrow.Author.Needs.{needs}
 use Prim.Native.Nat.{_-_}
+use borrow.Author.Needs.{needs}
 use Rattle.facts.proofs.Joining.{Joining, joining-none, joining-raise, joining-next, joining-all}
 use Rattle.facts.proofs.working.join.Statement.{statement}
 use Rattle.facts.proofs.working.join.Tie as tie
-use Rattle.facts.proofs.working.join.Reads as reads
-use Rattle.facts.proofs.working.join.Lts as lts
-use Rattle.facts.proofs.working.join_field.Reads as join-field-reads
 
 abbrev Inv-loop : tie.InvT-loop
 Inv-loop f₀ into from by i₀ f i = Joining f₀ into from by i f
@@ -14,27 +11,21 @@ Inv-loop f₀ into from by i₀ f i = Joining f₀ into from by i f
 abbrev μ-loop : tie.MeasureT-loop
 μ-loop f₀ into from by i₀ f i = 17 - i
 
--- src/working.rt:71:5
 loop-holds : tie.Need-loop-holds Inv-loop μ-loop
 loop-holds c = search (needs, joining-none)
 
--- src/working.rt:72:9
 join-field-requires : tie.Need-join-field-requires Inv-loop μ-loop
 join-field-requires c κs = search (needs, joining-raise)
 
--- src/working.rt:73:9
 add-i : tie.Need-add-i Inv-loop μ-loop
 add-i c = search needs
 
--- src/working.rt:71:5
 loop-less : tie.Need-loop-less Inv-loop μ-loop
 loop-less c = search needs
 
--- src/working.rt:71:5
 loop-again : tie.Need-loop-again Inv-loop μ-loop
 loop-again c = search (needs, joining-next)
 
--- src/working.rt:65:1
 returns : tie.Need-returns Inv-loop μ-loop
 returns c = search (needs, joining-all)
 

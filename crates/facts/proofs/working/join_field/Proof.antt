@@ -1,52 +1,39 @@
 -- `join_field` meets its contract: its test is the definition's.
-use Rattle.facts.proofs.RecordWays.{field-moves, field-stays}
 use borrow.Author.Needs.{needs}
+use Rattle.facts.proofs.RecordWays.{field-moves, field-stays}
 use Rattle.facts.proofs.working.join_field.Statement.{statement}
 use Rattle.facts.proofs.working.join_field.Tie as tie
-use Rattle.facts.proofs.working.join_field.Reads as reads
-use Rattle.facts.proofs.working.join_field.Lts as lts
 
--- src/working.rt:57:8
 mul-if1 : tie.Need-mul-if1
 mul-if1 c = search needs
 
--- src/working.rt:57:8
 element-copy-out-if1 : tie.Need-element-copy-out-if1
 element-copy-out-if1 c = search needs
 
--- src/working.rt:58:9
 mul-f : tie.Need-mul-f
 mul-f c = search needs
 
--- src/working.rt:58:9
 element-write-f : tie.Need-element-write-f
 element-write-f c = search needs
 
--- src/working.rt:59:23
 mul-f-2 : tie.Need-mul-f-2
 mul-f-2 c = search needs
 
--- src/working.rt:59:23
 element-copy-out-f : tie.Need-element-copy-out-f
 element-copy-out-f c = search needs
 
--- src/working.rt:59:23
 add-f : tie.Need-add-f
 add-f c = search needs
 
--- src/working.rt:59:9
 mul-f-3 : tie.Need-mul-f-3
 mul-f-3 c = search needs
 
--- src/working.rt:59:9
 element-write-f-2 : tie.Need-element-write-f-2
 element-write-f-2 c = search needs
 
--- src/working.rt:53:1
 returns : tie.Need-returns
 returns c = search (needs, field-moves)
 
--- src/working.rt:53:1
 returns-2 : tie.Need-returns-2
 returns-2 c = search (needs, field-stays)
 

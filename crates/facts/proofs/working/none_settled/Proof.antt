@@ -1,15 +1,11 @@
 -- `none_settled` meets its contract: the questions passed are not settled, and one that is settles the matter.
-use Rattle.facts.proofs.RecordWays.{PassedNoes, passed-none, passed-next, all-passed}
+use Prim.Native.Nat.{_-_}
 use native.Mathlib.Omega.{arith}
 use borrow.Author.Needs.{needs}
-use Prim.Native.Nat.{_≤_, _-_}
+use Rattle.facts.proofs.RecordWays.{PassedNoes, passed-none, passed-next, all-passed}
 use Rattle.facts.proofs.RecordWays.{side-left, side-right, settled-found}
 use Rattle.facts.proofs.working.none_settled.Statement.{statement}
 use Rattle.facts.proofs.working.none_settled.Tie as tie
-use Rattle.facts.proofs.working.none_settled.Reads as reads
-use Rattle.facts.proofs.working.none_settled.Lts as lts
-use Rattle.facts.proofs.working.is_settled.Reads as is-settled-reads
-use Rattle.facts.proofs.working.no_at.Reads as no-at-reads
 
 abbrev Inv-loop : tie.InvT-loop
 Inv-loop f i₀ i = PassedNoes f i
@@ -17,35 +13,27 @@ Inv-loop f i₀ i = PassedNoes f i
 abbrev μ-loop : tie.MeasureT-loop
 μ-loop f i₀ i = f .noes - i
 
--- src/working.rt:95:5
 loop-holds : tie.Need-loop-holds Inv-loop μ-loop
 loop-holds c = search (needs, passed-none)
 
--- src/working.rt:96:26
 no-at-requires : tie.Need-no-at-requires Inv-loop μ-loop
 no-at-requires c κs = omega (arith, c .before .before .before .pre .noes-few)
 
--- src/working.rt:96:12
 is-settled-requires : tie.Need-is-settled-requires Inv-loop μ-loop
 is-settled-requires c κs = (search (needs, side-left), search (needs, side-right))
 
--- src/working.rt:97:13
 returns : tie.Need-returns Inv-loop μ-loop
 returns c = search (needs, settled-found)
 
--- src/working.rt:99:9
 add-i : tie.Need-add-i Inv-loop μ-loop
 add-i c = search needs
 
--- src/working.rt:95:5
 loop-less : tie.Need-loop-less Inv-loop μ-loop
 loop-less c = search needs
 
--- src/working.rt:95:5
 loop-again : tie.Need-loop-again Inv-loop μ-loop
 loop-again c = search (needs, passed-next)
 
--- src/working.rt:90:1
 returns-2 : tie.Need-returns-2 Inv-loop μ-loop
 returns-2 c = search (needs, all-passed)
 

@@ -1,11 +1,11 @@
--- `above_last` meets its contract: the first question has none before it, and of any other the order decides.
+-- `above_last` meets its contract: a question other than the first is compared with the one before it.
 use borrow.Author.Needs.{needs}
-use Rattle.store.proofs.ListWays.{above-first, above-later}
+use Rattle.store.proofs.OpenWays.{above-other}
 use Rattle.store.proofs.opening.above_last.Statement.{statement}
 use Rattle.store.proofs.opening.above_last.Tie as tie
 
 returns : tie.Need-returns
-returns c = search (needs, above-first)
+returns c = search needs
 
 sub-question-in : tie.Need-sub-question-in
 sub-question-in c = search needs
@@ -20,7 +20,7 @@ precedes-requires : tie.Need-precedes-requires
 precedes-requires c κs = search needs
 
 returns-2 : tie.Need-returns-2
-returns-2 c = search (needs, above-later)
+returns-2 c = search (needs, above-other)
 
 pub above-last-spec : {M : Type 1} → statement M
 above-last-spec =

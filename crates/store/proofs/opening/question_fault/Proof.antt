@@ -1,6 +1,6 @@
--- `question_fault` meets its contract: the tests on each way decide the definition's own tests.
+-- `question_fault` meets its contract: each way through the code decides the definition's tests in turn.
 use borrow.Author.Needs.{needs}
-use Rattle.store.proofs.ListWays.{fault-none, fault-order, fault-form, fault-right, fault-left}
+use Rattle.store.proofs.OpenWays.{left-out, right-out, not-simplified, not-above, faultless}
 use Rattle.store.proofs.opening.question_fault.Statement.{statement}
 use Rattle.store.proofs.opening.question_fault.Tie as tie
 
@@ -20,19 +20,19 @@ above-last-requires : tie.Need-above-last-requires
 above-last-requires c κs = search needs
 
 returns : tie.Need-returns
-returns c = search (needs, fault-none)
+returns c = search (needs, faultless)
 
 returns-2 : tie.Need-returns-2
-returns-2 c = search (needs, fault-order)
+returns-2 c = search (needs, not-above)
 
 returns-3 : tie.Need-returns-3
-returns-3 c = search (needs, fault-form)
+returns-3 c = search (needs, not-simplified)
 
 returns-4 : tie.Need-returns-4
-returns-4 c = search (needs, fault-right)
+returns-4 c = search (needs, right-out)
 
 returns-5 : tie.Need-returns-5
-returns-5 c = search (needs, fault-left)
+returns-5 c = search (needs, left-out)
 
 pub question-fault-spec : {M : Type 1} → statement M
 question-fault-spec =

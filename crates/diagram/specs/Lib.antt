@@ -1,0 +1,4 @@
+pub mod Finished
+pub mod Finish
+pub mod Insert
+pub mod Questions

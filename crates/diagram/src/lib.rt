@@ -1,0 +1,4 @@
+// The finished diagram of a meaning, and adding it to a store.
+mod placing;
+
+pub use placing::Placed;

@@ -1,0 +1,9 @@
+pub mod Sheets
+pub mod SheetOrder
+pub mod BestLaws
+pub mod SeekLaws
+pub mod SheetWritten
+pub mod BestExact
+pub mod ExampleMeans
+pub mod ExampleBound
+pub mod ExampleWays

@@ -1,0 +1,84 @@
+// The least sheet over the paths to the leaf always.
+ghost use mathlib.Core.Path.{_≡_};
+ghost use Rattle.examples.specs.Best as spec;
+ghost use Rattle.facts.specs.Record as facts;
+ghost use Rattle.store.specs.Layout as layout;
+ghost use Rattle.store.specs.Tree as tree;
+ghost use Rattle.terms.specs.Order.{lex};
+use facts::Decision;
+use facts::Facts;
+use facts::Sheet;
+use facts::ask;
+use facts::least_sheet;
+use facts::no;
+use store::no_of;
+use store::question_of;
+use store::yes_of;
+use verdicts::question_at;
+
+// The least sheet that was found so far, if any.
+pub struct Best {
+    pub found: bool,
+    pub sheet: Sheet,
+}
+
+// Whether sheet a is before sheet b, compared from field 1 to field n.
+fn is_before(n: u32, a: Sheet, b: Sheet) -> bool
+    requires { ⌜ spec.Fields n ⌝ }
+    ensures { λ r. ⌜ r ≡ lex (spec.sheet-of n a) (spec.sheet-of n b) ⌝ }
+{
+    let mut i: u32 = 1;
+    while i <= n {
+        let at = i as usize;
+        let x = a.counts[at];
+        let y = b.counts[at];
+        if x < y {
+            return true;
+        }
+        if y < x {
+            return false;
+        }
+        i += 1;
+    }
+    false
+}
+
+// The lesser of the best sheet so far and another.
+fn lesser(n: u32, best: Best, sheet: Sheet) -> Best
+    requires { ⌜ spec.Fields n ⌝ }
+    ensures { λ r. ⌜ spec.best-of n r ≡ spec.lesser (spec.best-of n best) (spec.sheet-of n sheet) ⌝ }
+{
+    if best.found {
+        if is_before(n, sheet, best.sheet) {
+            return Best { found: true, sheet };
+        }
+        return best;
+    }
+    Best { found: true, sheet }
+}
+
+// The least sheet that fits the facts and leads from a handle to always, or the best so far if that is before it.
+pub fn best_from(s: &[u32], handle: usize, f: Facts, n: u32, best: Best) -> Best
+    requires { ⌜ spec.CanSeek (now s) handle f n ⌝ }
+    ensures { λ r. ⌜ spec.best-of n r ≡ spec.best (layout.question (now (s .entry))) n (tree.tree (now (s .entry)) handle) (facts.state f) (spec.best-of n best) ⌝ }
+{
+    if handle == 0 {
+        return best;
+    }
+    if handle == 1 {
+        return lesser(n, best, least_sheet(f, n));
+    }
+    let i = handle - 2;
+    let q = question_at(s, question_of(s, i));
+    let asked = ask(f, q);
+    let d = asked.decision;
+    let g = asked.yes;
+    match d {
+        Decision::Always => best_from(s, yes_of(s, i), f, n, best),
+        Decision::Never => best_from(s, no_of(s, i), f, n, best),
+        Decision::Open => {
+            let first = best_from(s, yes_of(s, i), g, n, best);
+            best_from(s, no_of(s, i), no(f, q), n, first)
+        }
+    }
+}

@@ -1,0 +1,4 @@
+
+pub mod RestsOn
+pub mod MeaningAdded
+pub mod HandleLaw

@@ -1,0 +1,4 @@
+pub mod Answer
+pub mod Table
+pub mod Operations
+pub mod Handles

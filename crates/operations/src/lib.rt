@@ -1,0 +1,4 @@
+// Build, negate, join and choose.
+mod answer;
+
+pub use answer::Built;

@@ -1,0 +1,5 @@
+pub mod WalkLaws
+pub mod LeavesLaws
+pub mod ReachedExact
+pub mod VerdictMeans
+pub mod VerdictWays

@@ -1,0 +1,10 @@
+pub mod ReadWays
+pub mod FollowWays
+pub mod RowWays
+pub mod ValueWays
+pub mod PlaceWays
+pub mod AddedEntry
+pub mod WalkKeeps
+pub mod WalkCalls
+pub mod WalkWays
+pub mod SoundWalkable

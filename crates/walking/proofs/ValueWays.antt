@@ -1,0 +1,40 @@
+-- The value of the subject is that of the table or of the three handles, each of which can be asked of the facts.
+use Prim.Native.Nat.{ℕ, _+_, _<_}
+use mathlib.Core.Path.{_≡_, subst, _∙_}
+use mathlib.Core.List.{List}
+use Rattle.facts.specs.declared.decision.Decision.{Decision}
+use Rattle.facts.specs.declared.record.Facts.{Facts}
+use Rattle.facts.specs.Record.{state}
+use Rattle.store.specs.Layout.{used, leaves}
+use Rattle.walking.specs.declared.subject.Subject.{Subject}
+use Rattle.walking.specs.declared.subject.Subject.the-variants.{Table, Choice}
+use Rattle.walking.specs.Ready.{Follows, AsksTable, Named, HasValue}
+use Rattle.walking.specs.Value.{choose-value, handle-value, table-value, subject-value}
+
+module _ {table : List ℕ} {subject : Subject} {s : List ℕ} {f : Facts} (v : HasValue table subject s f) where
+  pub table-asks : subject ≡ Table → AsksTable table f
+  table-asks e = record { good-table = subst (λ x. Named table x s) e (v .named); holds = v .holds }
+
+  follows : {h : ℕ} → h < used s + leaves → Follows s h f
+  follows l = record { walkable = v .walkable; named = l; holds = v .holds }
+
+  module _ {a b c : ℕ} (e : subject ≡ Choice a b c) where
+    handles-named : Named table (Choice a b c) s
+    handles-named = subst (λ x. Named table x s) e (v .named)
+
+    pub first-follows : Follows s a f
+    first-follows = follows (handles-named .0)
+
+    pub second-follows : Follows s b f
+    second-follows = follows (handles-named .1)
+
+    pub third-follows : Follows s c f
+    third-follows = follows (handles-named .2)
+
+module _ (table : List ℕ) (subject : Subject) (s : List ℕ) (f : Facts) {d : Decision} where
+  pub value-table : subject ≡ Table → d ≡ table-value table (state f) → d ≡ subject-value table subject s (state f)
+  value-table e ed = rw e ed
+
+  pub value-choice : {a b c : ℕ} {x y z : Decision} → subject ≡ Choice a b c → x ≡ handle-value s a (state f) → y ≡ handle-value s b (state f) → z ≡ handle-value s c (state f)
+      → d ≡ choose-value x y z → d ≡ subject-value table subject s (state f)
+  value-choice e ex ey ez ed = rw e (ed ∙ (λ i. choose-value (ex i) (ey i) (ez i)))

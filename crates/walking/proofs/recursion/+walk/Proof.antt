@@ -1,0 +1,215 @@
+-- `walk` meets its contract: each way through it is a line of the definition, and the number of questions left falls.
+use Prim.Native.Nat.{ℕ, _<_}
+use native.Mathlib.Omega.{arith}
+use borrow.Author.Needs.{needs}
+use borrow.Fn.Kinds.{In}
+use borrow.Fn.PlainCycle.{Measures, is, falls, and}
+use Rattle.walking.proofs.WalkCalls.{Asking, can-value, next-fits, can-question, can-ask, can-skip, can-yes, can-answer-no, can-no, can-place}
+use Rattle.walking.proofs.WalkWays.{on-last, on-known, on-skip, on-yes-full, on-no-full, on-parts}
+use Rattle.walking.proofs.recursion.walk.Reads as walk
+use Rattle.walking.proofs.recursion.walk.Kinds as walk-kinds
+use Rattle.walking.proofs.recursion.+walk.Lts-walk as walk-lts
+use Rattle.facts.proofs.ask.Reads as ask-reads
+use Rattle.facts.proofs.no.Reads as no-reads
+use Rattle.walking.proofs.entries.question_at.Reads as question-at-reads
+use Rattle.walking.proofs.placing.place_parts.Reads as place-parts-reads
+use Rattle.walking.proofs.recursion.leaf.Reads as leaf-reads
+use Rattle.walking.proofs.valuing.value.Reads as value-reads
+use Rattle.walking.proofs.recursion.+walk.{statement}
+use Rattle.walking.proofs.recursion.+walk.Tie.{close}
+
+abbrev μ-walk : Measures 2 walk-kinds.ps ℕ
+μ-walk κs a = a .1 .1 .1 .1 .1 .1 .0
+
+abbrev walk-at : ℕ → In 2 walk-kinds.ps
+walk-at t = and 2 walk-kinds.ps (is 2 walk-kinds.ps μ-walk t) walk.Pre
+
+abbrev walk-below : ℕ → In 2 walk-kinds.ps
+walk-below t = and 2 walk-kinds.ps (falls 2 walk-kinds.ps _<_ μ-walk t) walk.Pre
+
+-- what the callees ask and give, at the measure t
+abbrev knows : ℕ → walk-lts.Claims
+knows t = (value-reads.Asked, value-reads.Learnt, leaf-reads.Asked, leaf-reads.Learnt, question-at-reads.Asked, question-at-reads.Learnt, ask-reads.Asked, ask-reads.Learnt, walk-below t, walk.Post, no-reads.Asked, no-reads.Learnt, place-parts-reads.Asked, place-parts-reads.Learnt)
+
+-- where the question is asked
+abbrev begin : (t : ℕ) → walk-lts.After-enum-told2 (knows t) (walk-at t) walk.Post → walk-lts.Start (knows t) (walk-at t) walk.Post
+begin t o = o .before .before .before .before .before .before .before .before .before .before .before .before
+
+asking : (t : ℕ) (o : walk-lts.After-enum-told2 (knows t) (walk-at t) walk.Post)
+    → Asking (begin t o .args .limits) (begin t o .args .table .now) (begin t o .args .subject) (begin t o .args .store .now) (begin t o .args .f)
+    (begin t o .args .k) (begin t o .args .left) (o .before .before .before .question-at .result) (o .before .before .ask .result)
+asking t o =
+    let e = o .before .before in
+    let v = e .before .before .before in
+    let w = v .before .before in
+    record {
+      can = begin t o .pre .1;
+      value = w .before .value .result;
+      value-is = w .before .value .ensures;
+      value-open = v .enum-told .given .1;
+      more = w .if1 .left;
+      question-is = e .before .question-at .ensures;
+      asked = e .ask .ensures;
+      is-open = o .enum-told2 .given .1;
+    }
+
+walk-value-requires : (t : ℕ) → walk-lts.Need-value-requires (knows t) (walk-at t) walk.Post
+walk-value-requires t c κs = search (needs, can-value)
+
+walk-leaf-requires : (t : ℕ) → walk-lts.Need-leaf-requires (knows t) (walk-at t) walk.Post
+walk-leaf-requires t c κs = search needs
+
+walk-same-length : (t : ℕ) → walk-lts.Need-same-length (knows t) (walk-at t) walk.Post
+walk-same-length t c = search needs
+
+walk-returns : (t : ℕ) → walk-lts.Need-returns (knows t) (walk-at t) walk.Post
+walk-returns t c = search (needs, on-last)
+
+walk-enum-told : (t : ℕ) → walk-lts.Need-enum-told (knows t) (walk-at t) walk.Post
+walk-enum-told t c = search needs
+
+walk-leaf-requires-2 : (t : ℕ) → walk-lts.Need-leaf-requires-2 (knows t) (walk-at t) walk.Post
+walk-leaf-requires-2 t c κs = search needs
+
+walk-same-length-2 : (t : ℕ) → walk-lts.Need-same-length-2 (knows t) (walk-at t) walk.Post
+walk-same-length-2 t c = search needs
+
+walk-returns-2 : (t : ℕ) → walk-lts.Need-returns-2 (knows t) (walk-at t) walk.Post
+walk-returns-2 t c = search (needs, on-known)
+
+walk-question-at-requires : (t : ℕ) → walk-lts.Need-question-at-requires (knows t) (walk-at t) walk.Post
+walk-question-at-requires t c κs = search (needs, can-question)
+
+walk-ask-requires : (t : ℕ) → walk-lts.Need-ask-requires (knows t) (walk-at t) walk.Post
+walk-ask-requires t c κs = search (needs, can-ask)
+
+walk-enum-told-2 : (t : ℕ) → walk-lts.Need-enum-told-2 (knows t) (walk-at t) walk.Post
+walk-enum-told-2 t c = search needs
+
+walk-add-walk : (t : ℕ) → walk-lts.Need-add-walk (knows t) (walk-at t) walk.Post
+walk-add-walk t c = record { fits = next-fits (c .before .before .before .before .before .before .before .before .before .before .before .before .pre .1) }
+
+walk-sub-walk : (t : ℕ) → walk-lts.Need-sub-walk (knows t) (walk-at t) walk.Post
+walk-sub-walk t c = search needs
+
+walk-walk-requires : (t : ℕ) → walk-lts.Need-walk-requires (knows t) (walk-at t) walk.Post
+walk-walk-requires t c κs = (omega arith, search (needs, can-skip))
+
+walk-same-length-3 : (t : ℕ) → walk-lts.Need-same-length-3 (knows t) (walk-at t) walk.Post
+walk-same-length-3 t c = search needs
+
+walk-returns-3 : (t : ℕ) → walk-lts.Need-returns-3 (knows t) (walk-at t) walk.Post
+walk-returns-3 t c = search (needs, on-skip)
+
+walk-add-walk-2 : (t : ℕ) → walk-lts.Need-add-walk-2 (knows t) (walk-at t) walk.Post
+walk-add-walk-2 t c = record { fits = next-fits (begin t (c .before .before) .pre .1) }
+
+walk-sub-walk-2 : (t : ℕ) → walk-lts.Need-sub-walk-2 (knows t) (walk-at t) walk.Post
+walk-sub-walk-2 t c = search needs
+
+walk-walk-requires-2 : (t : ℕ) → walk-lts.Need-walk-requires-2 (knows t) (walk-at t) walk.Post
+walk-walk-requires-2 t c κs =
+    let o = c .before .before in
+    (omega (arith, begin t o .pre .0, asking t o .more), can-yes (asking t o))
+
+walk-enum-known-y : (t : ℕ) → walk-lts.Need-enum-known-y (knows t) (walk-at t) walk.Post
+walk-enum-known-y t c = search needs
+
+walk-enum-told-3 : (t : ℕ) → walk-lts.Need-enum-told-3 (knows t) (walk-at t) walk.Post
+walk-enum-told-3 t c = search needs
+
+walk-same-length-4 : (t : ℕ) → walk-lts.Need-same-length-4 (knows t) (walk-at t) walk.Post
+walk-same-length-4 t c = search needs
+
+walk-returns-4 : (t : ℕ) → walk-lts.Need-returns-4 (knows t) (walk-at t) walk.Post
+walk-returns-4 t c =
+    let w₂ = c .before .before .before .before in
+    on-yes-full (asking t (w₂ .before .before .before)) (w₂ .walk2 .ensures) (c .enum-told3 .given .1)
+
+walk-no-requires : (t : ℕ) → walk-lts.Need-no-requires (knows t) (walk-at t) walk.Post
+walk-no-requires t c κs = can-answer-no (asking t (c .before .before .before .before .before .before .before .before .before))
+
+walk-add-walk-3 : (t : ℕ) → walk-lts.Need-add-walk-3 (knows t) (walk-at t) walk.Post
+walk-add-walk-3 t c = record { fits = next-fits (begin t (c .before .before .before .before .before .before .before .before .before .before) .pre .1) }
+
+walk-sub-walk-3 : (t : ℕ) → walk-lts.Need-sub-walk-3 (knows t) (walk-at t) walk.Post
+walk-sub-walk-3 t c = search needs
+
+walk-walk-requires-3 : (t : ℕ) → walk-lts.Need-walk-requires-3 (knows t) (walk-at t) walk.Post
+walk-walk-requires-3 t c κs =
+    let w₂ = c .before .before .before .before .before .before .before in
+    let o = w₂ .before .before .before in
+    (omega (arith, begin t o .pre .0, asking t o .more), can-no (asking t o) (w₂ .walk2 .ensures) (c .no .ensures))
+
+walk-enum-known-n : (t : ℕ) → walk-lts.Need-enum-known-n (knows t) (walk-at t) walk.Post
+walk-enum-known-n t c = search needs
+
+walk-enum-told-4 : (t : ℕ) → walk-lts.Need-enum-told-4 (knows t) (walk-at t) walk.Post
+walk-enum-told-4 t c = search needs
+
+walk-same-length-5 : (t : ℕ) → walk-lts.Need-same-length-5 (knows t) (walk-at t) walk.Post
+walk-same-length-5 t c = search needs
+
+walk-returns-5 : (t : ℕ) → walk-lts.Need-returns-5 (knows t) (walk-at t) walk.Post
+walk-returns-5 t c =
+    let w₃ = c .before .before .before .before in
+    let y = w₃ .before .before .before .before in
+    let w₂ = y .before .before .before .before in
+    on-no-full (asking t (w₂ .before .before .before)) (w₂ .walk2 .ensures) (y .y .given .1) (w₃ .before .no .result) (w₃ .before .no .ensures) (w₃ .walk3 .ensures) (c .enum-told4 .given .1)
+
+walk-place-parts-requires : (t : ℕ) → walk-lts.Need-place-parts-requires (knows t) (walk-at t) walk.Post
+walk-place-parts-requires t c κs =
+    let w₃ = c .before .before .before .before .before .before in
+    let w₂ = w₃ .before .before .before .before .before .before .before .before in
+    can-place (asking t (w₂ .before .before .before)) (w₂ .walk2 .ensures) (w₃ .before .no .result) (w₃ .walk3 .ensures)
+
+walk-same-length-6 : (t : ℕ) → walk-lts.Need-same-length-6 (knows t) (walk-at t) walk.Post
+walk-same-length-6 t c = search needs
+
+walk-returns-6 : (t : ℕ) → walk-lts.Need-returns-6 (knows t) (walk-at t) walk.Post
+walk-returns-6 t c =
+    let p = c .before .before in
+    let n = p .before .before .before in
+    let w₃ = n .before .before .before .before in
+    let y = w₃ .before .before .before .before in
+    let w₂ = y .before .before .before .before in
+    on-parts (asking t (w₂ .before .before .before)) (w₂ .walk2 .ensures) (y .y .given .1) (w₃ .before .no .result) (w₃ .before .no .ensures) (w₃ .walk3 .ensures) (n .n .given .1) (p .place-parts .ensures)
+
+pub +walk-spec : {M : Type 1} → statement M
++walk-spec = close μ-walk λ t. walk-lts.spec (knows t)
+    (walk-at t)
+    walk.Post
+    (walk-value-requires t)
+    (walk-leaf-requires t)
+    (walk-same-length t)
+    (walk-returns t)
+    (walk-enum-told t)
+    (walk-leaf-requires-2 t)
+    (walk-same-length-2 t)
+    (walk-returns-2 t)
+    (walk-question-at-requires t)
+    (walk-ask-requires t)
+    (walk-enum-told-2 t)
+    (walk-add-walk t)
+    (walk-sub-walk t)
+    (walk-walk-requires t)
+    (walk-same-length-3 t)
+    (walk-returns-3 t)
+    (walk-add-walk-2 t)
+    (walk-sub-walk-2 t)
+    (walk-walk-requires-2 t)
+    (walk-enum-known-y t)
+    (walk-enum-told-3 t)
+    (walk-same-length-4 t)
+    (walk-returns-4 t)
+    (walk-no-requires t)
+    (walk-add-walk-3 t)
+    (walk-sub-walk-3 t)
+    (walk-walk-requires-3 t)
+    (walk-enum-known-n t)
+    (walk-enum-told-4 t)
+    (walk-same-length-5 t)
+    (walk-returns-5 t)
+    (walk-place-parts-requires t)
+    (walk-same-length-6 t)
+    (walk-returns-6 t)

@@ -1,0 +1,4 @@
+pub mod Value
+pub mod Walk
+pub mod Ready
+pub mod Parts

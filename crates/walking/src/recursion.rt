@@ -1,0 +1,65 @@
+// The walk over the questions of a list.
+ghost use mathlib.Core.Path.{_≡_};
+ghost use Rattle.facts.specs.Record as facts;
+ghost use Rattle.store.specs.Outcome.{outcome};
+ghost use Rattle.walking.specs.Parts.{leaf-of};
+ghost use Rattle.walking.specs.Ready.{CanWalk};
+ghost use Rattle.walking.specs.Walk as spec;
+use crate::entries::question_at;
+use crate::placing::place_parts;
+use crate::subject::Subject;
+use crate::valuing::value;
+use diagram::Placed;
+use facts::Decision;
+use facts::Facts;
+use facts::ask;
+use facts::no;
+use store::Limits;
+
+// The leaf of a value that is known.
+fn leaf(d: Decision) -> Placed
+    ensures { λ r. ⌜ r ≡ leaf-of d ⌝ }
+{
+    match d {
+        Decision::Always => Placed::At(1),
+        Decision::Never => Placed::At(0),
+        Decision::Open => Placed::At(0),
+    }
+}
+
+// The diagram of the subject under the facts, over the questions from the k-th on, of which so many are left.
+pub fn walk(
+    limits: Limits,
+    store: &mut [u32],
+    table: &[u32],
+    subject: Subject,
+    f: Facts,
+    k: u32,
+    left: u32,
+) -> Placed
+    requires { ⌜ CanWalk limits (now table) subject (now store) f k left ⌝ }
+    ensures { λ r. ⌜ outcome r (now (store .exit))
+        ≡ spec.walk limits (now (table .entry)) subject left k (facts.state f) (now (store .entry)) ⌝ }
+{
+    let known = value(table, subject, store, f);
+    if left == 0 {
+        return leaf(known);
+    }
+    let Decision::Open = known else {
+        return leaf(known);
+    };
+    let q = question_at(store, k);
+    let asked = ask(f, q);
+    let decision = asked.decision;
+    let Decision::Open = decision else {
+        return walk(limits, store, table, subject, f, k + 1, left - 1);
+    };
+    let yes = asked.yes;
+    let Placed::At(y) = walk(limits, store, table, subject, yes, k + 1, left - 1) else {
+        return Placed::Full;
+    };
+    let Placed::At(n) = walk(limits, store, table, subject, no(f, q), k + 1, left - 1) else {
+        return Placed::Full;
+    };
+    place_parts(limits, store, k, y, n)
+}

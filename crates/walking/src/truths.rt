@@ -1,0 +1,74 @@
+// Truth tables with a third value, for what the facts leave open.
+ghost use mathlib.Core.Path.{_≡_};
+ghost use Rattle.facts.specs.Record as facts;
+ghost use Rattle.facts.specs.State.{decide};
+ghost use Rattle.walking.specs.Value as spec;
+use facts::Decision;
+use facts::Facts;
+use facts::ask;
+use terms::Equation;
+
+// What the facts say of a question.
+pub fn decision_of(f: Facts, q: Equation) -> Decision
+    requires { ⌜ facts.Ready f q ⌝ }
+    ensures { λ r. ⌜ r ≡ decide (facts.state f) q ⌝ }
+{
+    let asked = ask(f, q);
+    asked.decision
+}
+
+// Not a.
+pub fn not_value(a: Decision) -> Decision
+    ensures { λ r. ⌜ r ≡ spec.not-value a ⌝ }
+{
+    match a {
+        Decision::Always => Decision::Never,
+        Decision::Never => Decision::Always,
+        Decision::Open => Decision::Open,
+    }
+}
+
+// a and b.
+pub fn and_value(a: Decision, b: Decision) -> Decision
+    ensures { λ r. ⌜ r ≡ spec.and-value a b ⌝ }
+{
+    match a {
+        Decision::Always => b,
+        Decision::Never => Decision::Never,
+        Decision::Open => match b {
+            Decision::Always => Decision::Open,
+            Decision::Never => Decision::Never,
+            Decision::Open => Decision::Open,
+        },
+    }
+}
+
+// What a and b have in common.
+fn agreed(a: Decision, b: Decision) -> Decision
+    ensures { λ r. ⌜ r ≡ spec.agreed a b ⌝ }
+{
+    match a {
+        Decision::Always => match b {
+            Decision::Always => Decision::Always,
+            Decision::Never => Decision::Open,
+            Decision::Open => Decision::Open,
+        },
+        Decision::Never => match b {
+            Decision::Always => Decision::Open,
+            Decision::Never => Decision::Never,
+            Decision::Open => Decision::Open,
+        },
+        Decision::Open => Decision::Open,
+    }
+}
+
+// If a then b else c.
+pub fn choose_value(a: Decision, b: Decision, c: Decision) -> Decision
+    ensures { λ r. ⌜ r ≡ spec.choose-value a b c ⌝ }
+{
+    match a {
+        Decision::Always => b,
+        Decision::Never => c,
+        Decision::Open => agreed(b, c),
+    }
+}
