@@ -46,7 +46,8 @@ module _ (limits : TermLimits) (words : List ℕ) where
       ]
 
   -- what is accepted passes the first test
-  pub accepted-allows : (k : ℕ) → question-fault limits words k ≡ Accepted → (allows limits (question-in words k .left) && allows limits (question-in words k .right)) ≡ true
+  pub accepted-allows : (k : ℕ) → question-fault limits words k ≡ Accepted
+      → (allows limits (question-in words k .left) && allows limits (question-in words k .right)) ≡ true
   unfolding question-fault
   accepted-allows k =
       let q = question-in words k in
@@ -74,7 +75,8 @@ module _ {limits : Limits} {s : List ℕ} (snd : Sound limits s) where
   sound-question k h l =
       let within = terms-within limits (field-count s) in
       let q = question s k in
-      let both = accepted-allows within (list-words s) (k - 1) (each-accepted within (list-words s) (question-count s) 0 (snd .list-kept) (k - 1) (omega arith) (omega arith)) in
+      let passed = each-accepted within (list-words s) (question-count s) 0 (snd .list-kept) (k - 1) (omega arith) (omega arith) in
+      let both = accepted-allows within (list-words s) (k - 1) passed in
       record {
         left = allows-says within (q .left) (first-passes (allows within (q .left)) (allows within (q .right)) both);
         right = allows-says within (q .right) (second-passes (allows within (q .left)) (allows within (q .right)) both);

@@ -5,4 +5,6 @@ pub mod WrittenRows
 pub mod WrittenMeans
 pub mod MarkWays
 pub mod PutWords
+pub mod EntryWays
+pub mod RowWays
 pub mod WriteWays

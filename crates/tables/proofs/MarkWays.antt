@@ -19,7 +19,8 @@ use Rattle.tables.proofs.Marks.{parts-length, down-alike, none-marked, 
 use Rattle.tables.proofs.MarkedRows.{before-marked, before-unmarked, before-few, row-of-leaf, row-of-entry}
 
 module _ (s : List ℕ) (i : ℕ) (marks : List Bool) where
-  pub marks-both : {y n : ℕ} → getD marks (i + leaves) false ≡ true → y ≡ entry s i .yes-to → n ≡ entry s i .no-to → set (set marks y true) n true ≡ mark-parts s i marks
+  pub marks-both : {y n : ℕ} → getD marks (i + leaves) false ≡ true → y ≡ entry s i .yes-to → n ≡ entry s i .no-to
+      → set (set marks y true) n true ≡ mark-parts s i marks
   unfolding mark-parts
   marks-both e ey en = rw (e, ey, en) refl
 
@@ -34,7 +35,8 @@ pub record Marking (s : List ℕ) (handle : ℕ) (first marks : List Bool) (h : 
   pub size : length marks ≡ most-handles
   pub left : marks-down s (h - leaves) marks ≡ marks-down s (suc handle - leaves) first
 
-pub marking-begins : {s : List ℕ} {handle : ℕ} {marks : List Bool} → marks ≡ replicate most-handles false → Marking s handle (set marks handle true) (set marks handle true) (handle + 1)
+pub marking-begins : {s : List ℕ} {handle : ℕ} {marks : List Bool} → marks ≡ replicate most-handles false
+    → Marking s handle (set marks handle true) (set marks handle true) (handle + 1)
 marking-begins {s} {handle} {marks} e = record {
   up-to = omega arith;
   size = length-set marks handle true ∙ ap length e ∙ length-replicate most-handles false;
@@ -72,7 +74,8 @@ module _ {s : List ℕ} {handle : ℕ} (k : Handled s handle) where
     -- the flags that the pass begins with, up to the handle
     first-alike : {none : List Bool} → none ≡ replicate most-handles false → Alike (suc handle) (set none handle true) (first-marks handle)
     first-alike {none} e g l = elim (ℕ-discrete g handle) [
-      | yes d ↦ rw d (getD-set-same none handle true false (omega (arith, handle-fits, ap length e, length-replicate most-handles false)) ∙ sym (getD-set-same (replicate (suc handle) false) handle true false (omega (arith, length-replicate (suc handle) false))))
+      | yes d ↦ rw d (getD-set-same none handle true false (omega (arith, handle-fits, ap length e, length-replicate most-handles false))
+          ∙ sym (getD-set-same (replicate (suc handle) false) handle true false (omega (arith, length-replicate (suc handle) false))))
       | no d ↦ getD-set-other none handle g true false d ∙ ap (λ x. getD x g false) e ∙ none-marked most-handles g
           ∙ sym (getD-set-other (replicate (suc handle) false) handle g true false d ∙ none-marked (suc handle) g)
     ]
@@ -85,9 +88,11 @@ module _ {s : List ℕ} {handle : ℕ} (k : Handled s handle) where
         sym (ap (λ n. marks-down s n marks) z) ∙ m .left ∙ ap (marks-down s (suc handle - leaves)) f in
         record {
           size = m .size;
-          marks-are = λ g u. ap (λ x. getD x g false) done ∙ down-alike (falling (sound-says (k .limits) s (k .sound-in))) (suc handle) (suc handle - leaves) (set none handle true) (first-marks handle)
+          marks-are = λ g u. ap (λ x. getD x g false) done
+              ∙ down-alike (falling (sound-says (k .limits) s (k .sound-in))) (suc handle) (suc handle - leaves) (set none handle true) (first-marks handle)
               (omega (arith, k .handle-in)) (omega arith)
-              (omega (arith, handle-fits, length-set none handle true, ap length e, length-replicate most-handles false)) (omega (arith, first-length handle)) (first-alike e) g u;
+              (omega (arith, handle-fits, length-set none handle true, ap length e, length-replicate most-handles false))
+              (omega (arith, first-length handle)) (first-alike e) g u;
         }
 
 -- ---- rows
@@ -121,7 +126,8 @@ module _ (marks : List Bool) (handle : ℕ) (rows : List ℕ) where
   }
 
   module _ {count h : ℕ} (n : Numbering marks handle rows count h) where
-    pub numbering-next : {more : ℕ} → handle < most-handles → h ≤ handle → more ≡ cond (getD marks h false) (suc count) count → Numbering marks handle (set rows h (3 + 2 * count)) more (h + 1)
+    pub numbering-next : {more : ℕ} → handle < most-handles → h ≤ handle → more ≡ cond (getD marks h false) (suc count) count
+        → Numbering marks handle (set rows h (3 + 2 * count)) more (h + 1)
     numbering-next {more} b l e = record {
       low = omega (arith, n .low);
       up-to = omega (arith, n .low);

@@ -81,7 +81,8 @@ module _ (marks : List Bool) where
     entries-length zero = refl
     entries-length (suc k) =
         length-append (entries-rows s marks k) (cond (getD marks (k + leaves) false) (entry-rows s marks k) [])
-        ∙ by-test (λ t. length (entries-rows s marks k) + length (cond t (entry-rows s marks k) []) ≡ 8 * cond t (suc (marked-before marks k)) (marked-before marks k)) (getD marks (k + leaves) false)
+        ∙ by-test (λ t. length (entries-rows s marks k) + length (cond t (entry-rows s marks k) []) ≡ 8 * cond t (suc (marked-before marks k)) (marked-before marks k))
+        (getD marks (k + leaves) false)
         (λ _. omega (arith, entries-length k, entry-length k)) (λ _. omega (arith, entries-length k))
 
     -- the words of a marked entry stand after those of the marked entries before it
@@ -90,7 +91,8 @@ module _ (marks : List Bool) where
     unfolding entries-rows
     entry-word i zero h e t l = absurd (omega arith)
     entry-word i (suc k) h e t l = elim (ℕ-discrete i k) [
-      | yes d ↦ rw (← d, e) (ap (λ x. getD (entries-rows s marks i ++ entry-rows s marks i) (x + t) 0) (sym (entries-length i)) ∙ getD-append-add (entries-rows s marks i) (entry-rows s marks i) t 0)
+      | yes d ↦ rw (← d, e) (ap (λ x. getD (entries-rows s marks i ++ entry-rows s marks i) (x + t) 0) (sym (entries-length i))
+          ∙ getD-append-add (entries-rows s marks i) (entry-rows s marks i) t 0)
       | no d ↦ List·getD-append (entries-rows s marks k) (cond (getD marks (k + leaves) false) (entry-rows s marks k) []) 0 (8 * marked-before marks i + t)
           (omega (arith, entries-length k, before-later i k (omega arith) e)) ∙ entry-word i k (omega arith) e t l
     ]

@@ -23,7 +23,8 @@ use Rattle.store.proofs.SoundTree.{falling}
 two-set : (marks : List Bool) (y n : ℕ) → y < length marks → n < length marks → (g : ℕ)
     → getD (set (set marks y true) n true) g false ≡ (getD marks g false || (eqb g y || eqb g n))
 two-set marks y n hy hn g = elim (ℕ-discrete g n) [
-  | yes e ↦ rw (eq-eqb g n e, e) (getD-set-same (set marks y true) n true false (omega (arith, length-set marks y true)) ∙ sym (ap (λ t. getD marks n false || t) (or-true (eqb n y)) ∙ or-true (getD marks n false)))
+  | yes e ↦ rw (eq-eqb g n e, e) (getD-set-same (set marks y true) n true false (omega (arith, length-set marks y true))
+      ∙ sym (ap (λ t. getD marks n false || t) (or-true (eqb n y)) ∙ or-true (getD marks n false)))
   | no d ↦ rw (ne-eqb g n d, or-false) (getD-set-other (set marks y true) n g true false d ∙ elim (ℕ-discrete g y) [
     | yes e ↦ rw (eq-eqb g y e, e) (getD-set-same marks y true false hy ∙ sym (or-true (getD marks y false)))
     | no c ↦ rw (ne-eqb g y c, or-false) (getD-set-other marks y g true false c)
@@ -38,11 +39,13 @@ module _ (s : List ℕ) (i : ℕ) (marks : List Bool) where
 
   module _ (hy : entry s i .yes-to < length marks) (hn : entry s i .no-to < length marks) where
     -- a handle is marked after the entry if it was before, or if the entry is marked and names it
-    parts-flag : (g : ℕ) → getD (mark-parts s i marks) g false ≡ (getD marks g false || (getD marks (i + leaves) false && (eqb g (entry s i .yes-to) || eqb g (entry s i .no-to))))
+    parts-flag : (g : ℕ)
+        → getD (mark-parts s i marks) g false ≡ (getD marks g false || (getD marks (i + leaves) false && (eqb g (entry s i .yes-to) || eqb g (entry s i .no-to))))
     unfolding mark-parts
     parts-flag g =
         let e = entry s i in
-        by-test (λ t. getD (cond t (set (set marks (e .yes-to) true) (e .no-to) true) marks) g false ≡ (getD marks g false || (t && (eqb g (e .yes-to) || eqb g (e .no-to))))) (getD marks (i + leaves) false)
+        by-test (λ t. getD (cond t (set (set marks (e .yes-to) true) (e .no-to) true) marks) g false ≡ (getD marks g false || (t && (eqb g (e .yes-to) || eqb g (e .no-to)))))
+        (getD marks (i + leaves) false)
         (λ _. two-set marks (e .yes-to) (e .no-to) hy hn g) (λ _. sym (or-false (getD marks g false)))
 
     parts-keep : (g : ℕ) → getD marks g false ≡ true → getD (mark-parts s i marks) g false ≡ true
@@ -50,7 +53,8 @@ module _ (s : List ℕ) (i : ℕ) (marks : List Bool) where
 
     -- a handle that is neither of the two has the flag that it had
     parts-other : (g : ℕ) → g ≢ entry s i .yes-to → g ≢ entry s i .no-to → getD (mark-parts s i marks) g false ≡ getD marks g false
-    parts-other g y n = parts-flag g ∙ rw (ne-eqb g _ y, ne-eqb g _ n) (by-test (λ t. (getD marks g false || (t && false)) ≡ getD marks g false) (getD marks (i + leaves) false) (λ _. or-false _) (λ _. or-false _))
+    parts-other g y n = parts-flag g ∙ rw (ne-eqb g _ y, ne-eqb g _ n)
+        (by-test (λ t. (getD marks g false || (t && false)) ≡ getD marks g false) (getD marks (i + leaves) false) (λ _. or-false _) (λ _. or-false _))
 
     parts-yes : getD marks (i + leaves) false ≡ true → getD (mark-parts s i marks) (entry s i .yes-to) false ≡ true
     parts-yes e = let y = entry s i .yes-to in parts-flag y ∙ rw (e, eq-eqb y y refl) (or-true (getD marks y false))
@@ -99,10 +103,12 @@ module _ {s : List ℕ} {m : ℕ} (f : Falling s m) where
           | no q ↦ let both = c i (omega arith) u was in (keep-part _ (both .0), keep-part _ (both .1))
         ]
 
-  down-keep : (k : ℕ) (marks : List Bool) → k ≤ m → k ≤ length marks - leaves → (g : ℕ) → getD marks g false ≡ true → getD (marks-down s k marks) g false ≡ true
+  down-keep : (k : ℕ) (marks : List Bool) → k ≤ m → k ≤ length marks - leaves → (g : ℕ)
+      → getD marks g false ≡ true → getD (marks-down s k marks) g false ≡ true
   unfolding marks-down
   down-keep zero marks h l g e = e
-  down-keep (suc k) marks h l g e = down-keep k (mark-parts s k marks) (omega arith) (left-in k marks (omega arith) (omega arith)) g (keep-part k marks (omega arith) (omega arith) g e)
+  down-keep (suc k) marks h l g e =
+      down-keep k (mark-parts s k marks) (omega arith) (left-in k marks (omega arith) (omega arith)) g (keep-part k marks (omega arith) (omega arith) g e)
 
   down-closed : (n k : ℕ) (marks : List Bool) → k ≤ m → k ≤ length marks - leaves → Closed s k n marks → Closed s 0 n (marks-down s k marks)
   unfolding marks-down
@@ -112,7 +118,8 @@ module _ {s : List ℕ} {m : ℕ} (f : Falling s m) where
 
   only-part : (h k : ℕ) (marks : List Bool) → k < m → k < length marks - leaves → OnlyReached s h marks → OnlyReached s h (mark-parts s k marks)
   unfolding OnlyReached
-  only-part h k marks b l only g = by-test (λ t. getD marks (k + leaves) false ≡ t → getD (mark-parts s k marks) g false ≡ true → Reaches s h g) (getD marks (k + leaves) false)
+  only-part h k marks b l only g = by-test (λ t. getD marks (k + leaves) false ≡ t → getD (mark-parts s k marks) g false ≡ true → Reaches s h g)
+      (getD marks (k + leaves) false)
       (λ _ t e. elim (ℕ-discrete g (entry s k .yes-to)) [
         | yes y ↦ rw y (by-yes k (only (k + leaves) t))
         | no y ↦ elim (ℕ-discrete g (entry s k .no-to)) [
@@ -135,7 +142,8 @@ module _ {s : List ℕ} {m : ℕ} (f : Falling s m) where
       ∙ rw (e g u, e (k + leaves) (omega arith)) refl
       ∙ sym (parts-flag s k b (yes-in k b h (omega arith)) (no-in k b h (omega arith)) g)
 
-  pub down-alike : (n k : ℕ) (a b : List Bool) → k ≤ m → k ≤ n - leaves → n ≤ length a → n ≤ length b → Alike n a b → Alike n (marks-down s k a) (marks-down s k b)
+  pub down-alike : (n k : ℕ) (a b : List Bool) → k ≤ m → k ≤ n - leaves → n ≤ length a → n ≤ length b → Alike n a b
+      → Alike n (marks-down s k a) (marks-down s k b)
   unfolding marks-down
   down-alike n zero a b h l la lb e = e
   down-alike n (suc k) a b h l la lb e = down-alike n k (mark-parts s k a) (mark-parts s k b) (omega arith) (omega arith)

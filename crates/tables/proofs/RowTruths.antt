@@ -15,7 +15,8 @@ module _ (v : Valuation) (table : List ℕ) where
   truths-length : (k : ℕ) → length (row-truths v table k) ≡ k
   unfolding row-truths
   truths-length zero = refl
-  truths-length (suc k) = length-append (row-truths v table k) (row-truth v (λ i. getD (row-truths v table k) i false) (row table k) ∷ []) ∙ omega (arith, truths-length k)
+  truths-length (suc k) =
+      length-append (row-truths v table k) (row-truth v (λ i. getD (row-truths v table k) i false) (row table k) ∷ []) ∙ omega (arith, truths-length k)
 
   -- the truth of the i-th row
   abbrev pub truth-at : ℕ → Bool
@@ -23,7 +24,8 @@ module _ (v : Valuation) (table : List ℕ) where
 
   truths-grow : (i k : ℕ) → i < k → getD (row-truths v table (suc k)) i false ≡ getD (row-truths v table k) i false
   unfolding row-truths
-  truths-grow i k h = List·getD-append (row-truths v table k) (row-truth v (λ j. getD (row-truths v table k) j false) (row table k) ∷ []) false i (omega (arith, truths-length k))
+  truths-grow i k h =
+      List·getD-append (row-truths v table k) (row-truth v (λ j. getD (row-truths v table k) j false) (row table k) ∷ []) false i (omega (arith, truths-length k))
 
   -- later rows do not change it
   pub truth-stays : (i k : ℕ) → i < k → getD (row-truths v table k) i false ≡ truth-at i

@@ -51,9 +51,11 @@ module _ {limits : Limits} {s : List ℕ} (snd : Sound limits s) (h : ℕ) (u : 
       let parts = marked-closed snd h u i l m in
       let asks : at-row (2 + 2 * before) ≡ truth v (question s (e .question)) =
       equation-truth v (written-rows s h) (2 + 2 * before) (first-kind snd h u n i l m)
-      ∙ ap (truth v) (ap₂ (λ a b. equation (term-of a) (term-of b)) (first-a snd h u n i l m) (first-b snd h u n i l m) ∙ sym (question-words s (e .question) (kept .asks-some) (kept .asks-listed))) in
+      ∙ ap (truth v) (ap₂ (λ a b. equation (term-of a) (term-of b)) (first-a snd h u n i l m) (first-b snd h u n i l m)
+      ∙ sym (question-words s (e .question) (kept .asks-some) (kept .asks-listed))) in
       ap at-row (row-of-entry (reachable s h) i)
-      ∙ choice-truth v (written-rows s h) (3 + 2 * before) (second-kind snd h u n i l m) (second-a snd h u n i l m) (second-b snd h u n i l m) (second-c snd h u n i l m)
+      ∙ choice-truth v (written-rows s h) (3 + 2 * before) (second-kind snd h u n i l m) (second-a snd h u n i l m)
+      (second-b snd h u n i l m) (second-c snd h u n i l m)
       (omega arith) (omega (arith, yes-row-lower snd h u n i l m)) (omega (arith, no-row-lower snd h u n i l m))
       ∙ ap (λ t. cond t (at-row (row-of (reachable s h) (e .yes-to))) (at-row (row-of (reachable s h) (e .no-to)))) asks
       ∙ ap₂ (cond (truth v (question s (e .question)))) (y (omega (arith, kept .yes-below)) (parts .0)) (z (omega (arith, kept .no-below)) (parts .1))
@@ -70,7 +72,8 @@ module _ {limits : Limits} {s : List ℕ} (snd : Sound limits s) (h : ℕ) (u : 
         let back : h - leaves + leaves ≡ h = omega arith in
         let k : suc h - leaves ≡ suc (h - leaves) = omega arith in
         let m = before-marked (reachable s h) (h - leaves) (ap (λ x. getD (reachable s h) x false) back ∙ handle-marked snd h u) in
-        omega (arith, count-of-other s h n, ap (marked-before (reachable s h)) k, m, ap (row-of (reachable s h)) (sym back) ∙ row-of-entry (reachable s h) (h - leaves))
+        let r = ap (row-of (reachable s h)) (sym back) ∙ row-of-entry (reachable s h) (h - leaves) in
+        omega (arith, count-of-other s h n, ap (marked-before (reachable s h)) k, m, r)
   ]
 
   other-means : rule-meaning (written-rows s h) v ≡ meaning s h v

@@ -41,7 +41,9 @@ module _ (s : List ℕ) (h : ℕ) where
 
   pub written-length : length (written-rows s h) ≡ row-length * written-count s h
   unfolding written-rows
-  written-length = by-eq (λ t. length (cond t (0 ∷ 0 ∷ 0 ∷ 0 ∷ []) (0 ∷ 0 ∷ 0 ∷ 0 ∷ 1 ∷ 0 ∷ 0 ∷ 0 ∷ entries-rows s (reachable s h) entries-to)) ≡ row-length * cond t 1 (2 + 2 * marked-before (reachable s h) entries-to)) h 0
+  written-length = by-eq
+      (λ t. length (cond t (0 ∷ 0 ∷ 0 ∷ 0 ∷ []) (0 ∷ 0 ∷ 0 ∷ 0 ∷ 1 ∷ 0 ∷ 0 ∷ 0 ∷ entries-rows s (reachable s h) entries-to))
+      ≡ row-length * cond t 1 (2 + 2 * marked-before (reachable s h) entries-to)) h 0
       (λ _. refl) (λ _. omega (arith, entries-length (reachable s h) s entries-to))
 
   -- The table has as many rows as is answered.
@@ -56,7 +58,8 @@ module _ (s : List ℕ) (h : ℕ) where
     -- a word of a marked entry's two rows
     word-of-entry : (i : ℕ) → i < entries-to → getD (reachable s h) (i + leaves) false ≡ true → (t at : ℕ) → t < 8
         → at ≡ 8 + (8 * marked-before (reachable s h) i + t) → getD (written-rows s h) at 0 ≡ getD (entry-rows s (reachable s h) i) t 0
-    word-of-entry i l m t at k e = ap (λ x. getD (written-rows s h) x 0) e ∙ later-word (8 * marked-before (reachable s h) i + t) ∙ entry-word (reachable s h) s i entries-to l m t k
+    word-of-entry i l m t at k e =
+        ap (λ x. getD (written-rows s h) x 0) e ∙ later-word (8 * marked-before (reachable s h) i + t) ∙ entry-word (reachable s h) s i entries-to l m t k
 
 -- the rows of marked entries, counted from the first: the first and the second of some entry
 data Placed (marks : List Bool) (k r : ℕ) : Type 0 where
@@ -158,11 +161,13 @@ pub written-formed : {limits : Limits} {s : List ℕ} → Sound limits s → (h 
 written-formed {s = s} snd h u = elim (ℕ-discrete h 0) [
   | yes e ↦ λ i l. let d : i ≡ 0 = omega (arith, ap (λ t. cond t 1 (2 + 2 * marked-before (reachable s h) (suc h - leaves))) (eq-eqb h 0 e)) in
       rw (d, rows-of-never s h e) (is-never refl refl refl refl)
-  | no n ↦ λ i l. elim (ℕ-discrete i 0) [
-    | yes d ↦ rw d (is-never (leaf-word snd h u n 0 (omega arith)) (leaf-word snd h u n 1 (omega arith)) (leaf-word snd h u n 2 (omega arith)) (leaf-word snd h u n 3 (omega arith)))
+  | no n ↦ λ i l. let at = leaf-word snd h u n in elim (ℕ-discrete i 0) [
+    | yes d ↦ rw d (is-never (at 0 (omega arith)) (at 1 (omega arith)) (at 2 (omega arith)) (at 3 (omega arith)))
     | no d ↦ elim (ℕ-discrete i 1) [
-      | yes c ↦ rw c (is-always (leaf-word snd h u n 4 (omega arith)) (leaf-word snd h u n 5 (omega arith)) (leaf-word snd h u n 6 (omega arith)) (leaf-word snd h u n 7 (omega arith)))
-      | no c ↦ let e : 2 + (i - 2) ≡ i = omega arith in subst (λ k. WellFormed s k (row (written-rows s h) k)) e (row-formed snd h u n (i - 2) (omega (arith, count-of-other s h n)))
+      | yes c ↦ rw c (is-always (at 4 (omega arith)) (at 5 (omega arith)) (at 6 (omega arith)) (at 7 (omega arith)))
+      | no c ↦
+          let e : 2 + (i - 2) ≡ i = omega arith in
+          subst (λ k. WellFormed s k (row (written-rows s h) k)) e (row-formed snd h u n (i - 2) (omega (arith, count-of-other s h n)))
     ]
   ]
 ]

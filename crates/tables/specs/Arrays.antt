@@ -13,13 +13,13 @@ use Rattle.store.specs.Sound.{sound}
 use Rattle.tables.specs.declared.answer.Written.{Written}
 use Rattle.tables.specs.declared.answer.Written.the-variants.{Rows, TooManyRows, TooShort}
 use Rattle.tables.specs.Rows.{row-length}
-use Rattle.tables.specs.WriteBack.{reachable, marked-before, row-of, written-rows, written-count, most-rows}
+use Rattle.tables.specs.WriteBack.{reachable, marked-before, row-of, entries-rows, written-rows, written-count, most-rows}
 
--- an index holds all entries, so so many handles are enough
+-- the handles of the leaves, and of as many entries as an index holds
 abbrev pub most-handles : ℕ
 most-handles = capacity + leaves
 
--- a handle of a store that is sound within limits that an index holds
+-- a handle of a store that is sound within some limits, whose entries an index holds
 pub record Handled (s : List ℕ) (handle : ℕ) : Type 0 where
   pub limits : Limits
   pub sound-in : sound limits s ≡ true
@@ -52,6 +52,10 @@ put out at words = take at out ++ words ++ drop (at + length words) out
 abbrev pub after-leaves : ℕ
 after-leaves = row-length * leaves
 
+-- the rows of the entries reachable from a handle
+abbrev pub reachable-rows : List ℕ → ℕ → List ℕ
+reachable-rows s handle = entries-rows s (reachable s handle) (suc handle - leaves)
+
 -- the words of the i-th entry's two rows, by the rows of the handles
 abbrev pub entry-words : List ℕ → List ℕ → ℕ → List ℕ
 entry-words s rows i =
@@ -59,6 +63,7 @@ entry-words s rows i =
     let at = heading-length + 2 * (e .question - 1) in
     2 ∷ getD s at 0 ∷ getD s (at + 1) 0 ∷ 0 ∷ 5 ∷ (getD rows (i + leaves) 0 - 1) ∷ getD rows (e .yes-to) 0 ∷ getD rows (e .no-to) 0 ∷ []
 
+-- the words with these written in their place, if the entry is marked
 abbrev pub entry-put : List ℕ → List Bool → List ℕ → ℕ → List ℕ → List ℕ
 entry-put s marks rows i out =
     cond (getD marks (i + leaves) false) (put out (row-length * (getD rows (i + leaves) 0 - 1)) (entry-words s rows i)) out

@@ -1,9 +1,8 @@
 // Writing the rows of a table.
 ghost use mathlib.Core.Path.{_≡_};
 ghost use mathlib.Core.List.{[], _∷_};
-ghost use Prim.Native.Nat.{_+_, _-_, _*_, _≤_, suc};
+ghost use Prim.Native.Nat.{_+_, _*_, _≤_};
 ghost use lib.ListN.{length};
-ghost use Rattle.store.specs.Layout as layout;
 ghost use Rattle.tables.specs.Arrays as arrays;
 ghost use Rattle.tables.specs.Rows as table;
 ghost use Rattle.tables.specs.WriteBack as back;
@@ -50,7 +49,7 @@ fn write_entry(s: &[u32], marks: &Marks, rows: &RowNumbers, i: usize, out: &mut 
 fn write_entries(s: &[u32], marks: &Marks, rows: &RowNumbers, handle: usize, out: &mut [u32])
     requires { ⌜ arrays.Writable (now s) handle (now marks) (now rows) (length (now out)) ⌝ }
     requires { ⌜ 1 ≤ handle ⌝ }
-    ensures { λ r. ⌜ now (out .exit) ≡ arrays.put (now (out .entry)) arrays.after-leaves (back.entries-rows (now (s .entry)) (back.reachable (now (s .entry)) handle) (suc handle - layout.leaves)) ⌝ }
+    ensures { λ r. ⌜ now (out .exit) ≡ arrays.put (now (out .entry)) arrays.after-leaves (arrays.reachable-rows (now (s .entry)) handle) ⌝ }
 {
     let mut h = LEAVES;
     while h <= handle {

@@ -1,7 +1,7 @@
 -- `write_entries` meets its contract: each turn writes the rows of one entry after those of the entries before it.
 use Prim.Native.Nat.{suc, _-_}
 use borrow.Author.Needs.{needs}
-use Rattle.tables.proofs.WriteWays.{Writing, writing-begins, writing-entry, writing-next, writing-ends}
+use Rattle.tables.proofs.RowWays.{Writing, writing-begins, writing-entry, writing-next, writing-ends}
 use Rattle.tables.proofs.rows.write_entries.Statement.{statement}
 use Rattle.tables.proofs.rows.write_entries.Tie as tie
 

@@ -1,6 +1,6 @@
 -- `write_entry` meets its contract: its row of kind 5 stands right after its equation row.
 use borrow.Author.Needs.{needs}
-use Rattle.tables.proofs.WriteWays.{first-room, second-room, wrote-both, wrote-none}
+use Rattle.tables.proofs.EntryWays.{first-room, second-room, wrote-both, wrote-none}
 use Rattle.tables.proofs.rows.write_entry.Statement.{statement}
 use Rattle.tables.proofs.rows.write_entry.Tie as tie
 

@@ -1,6 +1,6 @@
 -- `write_rows` meets its contract: the rows of the leaves come first, and those of the entries right after them.
 use borrow.Author.Needs.{needs}
-use Rattle.tables.proofs.WriteWays.{never-room, wrote-never, always-room, still-writable, wrote-rows}
+use Rattle.tables.proofs.RowWays.{never-room, wrote-never, always-room, still-writable, wrote-rows}
 use Rattle.tables.proofs.rows.write_rows.Statement.{statement}
 use Rattle.tables.proofs.rows.write_rows.Tie as tie
 
