@@ -5,9 +5,13 @@ use mathlib.Core.List.{List, [], _∷_}
 use lib.IntN.{ℤ}
 use Rattle.examples.specs.Example.{example-number}
 use Rattle.examples.specs.Example as examples
+use Rattle.operations.specs.declared.answer.Built.{Built}
+use Rattle.operations.specs.Answer.{built-number, built-result}
+use Rattle.operations.specs.Operations as operation
 use Rattle.sheets.specs.Read.{read-sheet, read-number, read-result}
 use Rattle.store.specs.Limits.{store-limits}
 use Rattle.store.specs.Open.{open-number, open-store}
+use Rattle.store.specs.Outcome as specs
 use Rattle.tables.specs.WriteBack as tables
 use Rattle.tables.specs.WriteBack.{written-number, written-result}
 use Rattle.terms.specs.declared.simplification.Answer.{Answer}
@@ -22,6 +26,12 @@ pub data Call : Type 0 where
   simplify : ℕ → ℕ → Call
   -- n and the list
   open-with : ℕ → List ℕ → Call
+  -- the words of a rule table
+  build : List ℕ → Call
+  -- handles
+  negate : ℕ → Call
+  join : ℕ → ℕ → Call
+  choose : ℕ → ℕ → ℕ → Call
   -- a handle, and the sheet
   read : ℕ → List ℕ → Call
   -- a handle, and the words lent for the rows
@@ -41,6 +51,10 @@ pub data Outcome : Type 0 where
 abbrev simplified-as : Answer → Outcome
 simplified-as a = simplified (a .number) (a .result) (a .left) (a .right) (a .gap)
 
+-- what a call that may add entries leaves, with the other words lent
+abbrev built-as : specs.Outcome Built → List ℕ → Outcome
+built-as o lent = answered (built-number (o .answer)) (built-result (o .answer)) (o .words) lent
+
 -- What the calls leave one after the other, each by the definition that its function's promise names.
 abbrev pub outcomes : List ℕ → List Call → List Outcome
 outcomes s [] = []
@@ -48,6 +62,10 @@ outcomes s (simplify l r ∷ calls) = simplified-as (answer (simplify-words term
 outcomes s (open-with n list ∷ calls) =
     let o = open-store store-limits n list s in
     answered (open-number (o .answer)) 0 (o .words) list ∷ outcomes (o .words) calls
+outcomes s (build table ∷ calls) = let o = operation.build store-limits table s in built-as o table ∷ outcomes (o .words) calls
+outcomes s (negate a ∷ calls) = let o = operation.negate store-limits a s in built-as o [] ∷ outcomes (o .words) calls
+outcomes s (join a b ∷ calls) = let o = operation.join store-limits a b s in built-as o [] ∷ outcomes (o .words) calls
+outcomes s (choose a b c ∷ calls) = let o = operation.choose store-limits a b c s in built-as o [] ∷ outcomes (o .words) calls
 outcomes s (read handle sheet ∷ calls) =
     let r = read-sheet store-limits s handle sheet in
     answered (read-number r) (read-result r) s sheet ∷ outcomes s calls

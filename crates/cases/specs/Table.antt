@@ -1,9 +1,9 @@
 -- Document 01, "Sheets and stores to try": the starred cases, each number as the paper has it or as its words give it.
 use Prim.Native.Nat.{ℕ}
-use mathlib.Core.List.{List, [], _∷_}
+use mathlib.Core.List.{List, [], _∷_, _++_}
 use lib.IntN.{pos}
 use lib.ListN.{replicate}
-use Rattle.cases.specs.Call.{simplify, open-with, read, write-back, verdict, example, simplified, answered, Case}
+use Rattle.cases.specs.Call.{simplify, open-with, build, negate, join, read, write-back, verdict, example, simplified, answered, Case}
 
 -- S3(1) = S1(2) simplifies to 2 = S2(1): words 2, 65, gap 2.
 abbrev pub case-1 : Case
@@ -32,23 +32,101 @@ case-4 = record {
       ∷ answered 0 0 (1 ∷ 1 ∷ 0 ∷ 1 ∷ 8160 ∷ []) (1 ∷ 8160 ∷ []) ∷ [];
 }
 
--- n = 0, empty list, 3 words: opened, all zero.
+-- n = 0, empty list, 3 words: opened, all zero. The rule of one always row has handle 1; its example writes nothing.
 abbrev pub case-5-opened : Case
 case-5-opened = record {
   start = 9 ∷ 9 ∷ 9 ∷ [];
-  calls = open-with 0 [] ∷ verdict 1 ∷ example 1 [] ∷ [];
-  expected = answered 0 0 (0 ∷ 0 ∷ 0 ∷ []) [] ∷ answered 0 1 (0 ∷ 0 ∷ 0 ∷ []) [] ∷ answered 0 0 (0 ∷ 0 ∷ 0 ∷ []) [] ∷ [];
+  calls = open-with 0 [] ∷ build (1 ∷ 0 ∷ 0 ∷ 0 ∷ []) ∷ verdict 1 ∷ example 1 [] ∷ [];
+  expected = answered 0 0 (0 ∷ 0 ∷ 0 ∷ []) [] ∷ answered 0 1 (0 ∷ 0 ∷ 0 ∷ []) (1 ∷ 0 ∷ 0 ∷ 0 ∷ []) ∷ answered 0 1 (0 ∷ 0 ∷ 0 ∷ []) [] ∷ answered 0 0 (0 ∷ 0 ∷ 0 ∷ []) [] ∷ [];
 }
 
 -- 2 words: 21.
 abbrev pub case-5-short : Case
 case-5-short = record { start = 9 ∷ 9 ∷ []; calls = open-with 0 [] ∷ []; expected = answered 21 0 (9 ∷ 9 ∷ []) [] ∷ [] }
 
+-- ---- n = 3, list 2 = 1, 3 = 1, 3 = 2
+abbrev three-equal : List ℕ
+three-equal = 2 ∷ 1 ∷ 3 ∷ 1 ∷ 3 ∷ 2 ∷ []
+
+-- the rule 3 = 2
+abbrev last-equal : List ℕ
+last-equal = 2 ∷ 3 ∷ 2 ∷ 0 ∷ []
+
+-- the rule 3 = 1
+abbrev outer-equal : List ℕ
+outer-equal = 2 ∷ 3 ∷ 1 ∷ 0 ∷ []
+
+-- the rule 2 = 1 and 3 = 2 and not 3 = 1
+abbrev not-outer : List ℕ
+not-outer = 2 ∷ 2 ∷ 1 ∷ 0 ∷ 2 ∷ 3 ∷ 2 ∷ 0 ∷ 4 ∷ 0 ∷ 1 ∷ 0 ∷ 2 ∷ 3 ∷ 1 ∷ 0 ∷ 3 ∷ 3 ∷ 0 ∷ 0 ∷ 4 ∷ 2 ∷ 4 ∷ 0 ∷ []
+
+-- Store of 21 words. Building 3 = 2 gives handle 5 and the words 3 3 4, 2 1 3 1 3 2, 2 1 0, 3 1 0, 2 0 3, 1 2 4. Case 7: then building 3 = 1
+-- gives handle 2; used stays 4. Case 8: 2 = 1 and 3 = 2 and not 3 = 1 is handle 0.
+abbrev pub cases-6-to-8 : Case
+cases-6-to-8 =
+    let s : List ℕ = 3 ∷ 3 ∷ 4 ∷ 2 ∷ 1 ∷ 3 ∷ 1 ∷ 3 ∷ 2 ∷ 2 ∷ 1 ∷ 0 ∷ 3 ∷ 1 ∷ 0 ∷ 2 ∷ 0 ∷ 3 ∷ 1 ∷ 2 ∷ 4 ∷ [] in
+    record {
+      start = replicate 21 7;
+      calls = open-with 3 three-equal ∷ build last-equal ∷ build outer-equal ∷ build not-outer ∷ [];
+      expected =
+          answered 0 0 (3 ∷ 3 ∷ 0 ∷ (three-equal ++ replicate 12 0)) three-equal
+          ∷ answered 0 5 s last-equal ∷ answered 0 2 s outer-equal ∷ answered 0 0 s not-outer ∷ [];
+    }
+
+-- With 18 words: 51, unchanged.
+abbrev pub case-6-short : Case
+case-6-short =
+    let s : List ℕ = 3 ∷ 3 ∷ 0 ∷ (three-equal ++ replicate 9 0) in
+    record {
+      start = replicate 18 7;
+      calls = open-with 3 three-equal ∷ build last-equal ∷ [];
+      expected = answered 0 0 s three-equal ∷ answered 51 0 s last-equal ∷ [];
+    }
+
+-- 000's Example 23, 1 not S(2), 3 = S(1), 3 = S2(2): handle 0. List words 34 1, 3 33, 3 66. The rule is the first negated, and the others.
+abbrev pub case-9 : Case
+case-9 =
+    let list : List ℕ = 34 ∷ 1 ∷ 3 ∷ 33 ∷ 3 ∷ 66 ∷ [] in
+    let rule : List ℕ =
+    2 ∷ 34 ∷ 1 ∷ 0 ∷ 3 ∷ 0 ∷ 0 ∷ 0 ∷ 2 ∷ 3 ∷ 33 ∷ 0 ∷ 4 ∷ 1 ∷ 2 ∷ 0 ∷ 2 ∷ 3 ∷ 66 ∷ 0 ∷ 4 ∷ 3 ∷ 4 ∷ 0 ∷ [] in
+    let s : List ℕ = 3 ∷ 3 ∷ 0 ∷ (list ++ replicate 3 0) in
+    record {
+      start = replicate 12 7;
+      calls = open-with 3 list ∷ build rule ∷ [];
+      expected = answered 0 0 s list ∷ answered 0 0 s rule ∷ [];
+    }
+
+-- The same by build: handle 3 and those words, joined with itself it is handle 3 again, and for the two entries of its negation there is no room.
+abbrev pub case-11-built : Case
+case-11-built =
+    let list : List ℕ = 1 ∷ 0 ∷ 1 ∷ 32 ∷ [] in
+    let rule : List ℕ = 2 ∷ 1 ∷ 0 ∷ 0 ∷ 3 ∷ 0 ∷ 0 ∷ 0 ∷ 2 ∷ 1 ∷ 32 ∷ 0 ∷ 3 ∷ 2 ∷ 0 ∷ 0 ∷ 4 ∷ 1 ∷ 3 ∷ 0 ∷ [] in
+    let s : List ℕ = 1 ∷ 2 ∷ 2 ∷ 1 ∷ 0 ∷ 1 ∷ 32 ∷ 2 ∷ 0 ∷ 1 ∷ 1 ∷ 0 ∷ 2 ∷ [] in
+    record {
+      start = replicate 13 7;
+      calls = open-with 1 list ∷ build rule ∷ join 3 3 ∷ negate 3 ∷ example 3 (7 ∷ []) ∷ [];
+      expected =
+          answered 0 0 (1 ∷ 2 ∷ 0 ∷ (list ++ replicate 6 0)) list
+          ∷ answered 0 3 s rule ∷ answered 0 3 s [] ∷ answered 51 0 s [] ∷ answered 0 0 s (2 ∷ []) ∷ [];
+    }
+
+-- n = 2, 2 = S(0) and 2 = S3(1): never.
+abbrev pub case-12 : Case
+case-12 =
+    let list : List ℕ = 2 ∷ 32 ∷ 2 ∷ 97 ∷ [] in
+    let rule : List ℕ = 2 ∷ 2 ∷ 32 ∷ 0 ∷ 2 ∷ 2 ∷ 97 ∷ 0 ∷ 4 ∷ 0 ∷ 1 ∷ 0 ∷ [] in
+    let s : List ℕ = 2 ∷ 2 ∷ 0 ∷ list in
+    record {
+      start = replicate 7 7;
+      calls = open-with 2 list ∷ build rule ∷ verdict 0 ∷ [];
+      expected = answered 0 0 s list ∷ answered 0 0 s rule ∷ answered 0 0 s [] ∷ [];
+    }
+
 -- 25 words that a call may write to
 abbrev sevens : List ℕ
 sevens = replicate 25 7
 
--- n = 1, list 1 = 0, 1 = S(0), rule neither: example 2, which is n × (K + 1). Written back, its rule has the two leaves' rows and two rows
+-- The words of a store with n = 1, list 1 = 0, 1 = S(0), and the rule neither, handle 3: example 2, which is n × (K + 1). Written back, its rule has the two leaves' rows and two rows
 -- for each of the two entries.
 abbrev pub case-11 : Case
 case-11 =
@@ -63,4 +141,4 @@ case-11 =
     }
 
 abbrev pub cases : List Case
-cases = case-1 ∷ case-2 ∷ case-3 ∷ case-4 ∷ case-5-opened ∷ case-5-short ∷ case-11 ∷ []
+cases = case-1 ∷ case-2 ∷ case-3 ∷ case-4 ∷ case-5-opened ∷ case-5-short ∷ cases-6-to-8 ∷ case-6-short ∷ case-9 ∷ case-11 ∷ case-11-built ∷ case-12 ∷ []
