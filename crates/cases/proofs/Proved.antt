@@ -1,8 +1,23 @@
 -- Every case of the table holds: what all its calls give, computed at once, is what the table expects.
 use mathlib.Core.Path.{_≡_, refl}
 use mathlib.Core.List.{List, [], _∷_, map}
+use Rattle.examples.specs.Best.{counts-from, best}
+use Rattle.examples.specs.Example.{example}
+use Rattle.facts.specs.Least.{first-from, fixed}
+use Rattle.facts.specs.State.{plan, decide, spacing, some-sheet}
+use Rattle.sheets.specs.Read.{read-sheet}
+use Rattle.store.specs.Meaning.{next, follow}
+use Rattle.store.specs.Open.{question-fault, list-fault, opening, opened-words, open-store}
+use Rattle.store.specs.Sound.{all-below, all-zero, heading-sound, entry-sound, entries-differ, sound}
+use Rattle.store.specs.Tree.{tree-within}
+use Rattle.tables.specs.WriteBack.{mark-parts, marks-down, reachable, marked-before, row-of, entry-rows, entries-rows, written-rows, write-back}
+use Rattle.terms.specs.Form.{is-simplified}
+use Rattle.terms.specs.Meaning.{count}
+use Rattle.terms.specs.Order.{lex}
 use Rattle.terms.specs.Words.{allows}
 use Rattle.terms.specs.Simplify.{simplify-words, simplify, larger-left, lowered, settled}
+use Rattle.verdicts.specs.Leaves.{reached}
+use Rattle.verdicts.specs.Verdict.{verdict}
 use Rattle.cases.specs.Call.{Outcome, outcomes, Case, Holds}
 use Rattle.cases.specs.Table.{cases}
 
@@ -22,5 +37,5 @@ each [] e = tt
 each (c ∷ table) e = (cc, each table (cc))
 
 pub cases-hold : All Holds cases
-unfolding found wanted simplify-words allows simplify larger-left lowered settled
+unfolding found wanted is-simplified count lex simplify-words allows simplify larger-left lowered settled question-fault list-fault opening opened-words open-store all-below all-zero heading-sound entry-sound entries-differ sound next follow tree-within read-sheet mark-parts marks-down reachable marked-before row-of entry-rows entries-rows written-rows write-back plan decide spacing some-sheet reached verdict first-from fixed counts-from best example
 cases-hold = each cases refl

@@ -1,7 +1,9 @@
 -- Document 01, "Sheets and stores to try": the starred cases, each number as the paper has it or as its words give it.
+use Prim.Native.Nat.{ℕ}
 use mathlib.Core.List.{List, [], _∷_}
 use lib.IntN.{pos}
-use Rattle.cases.specs.Call.{simplify, open-with, read, verdict, example, simplified, answered, Case}
+use lib.ListN.{replicate}
+use Rattle.cases.specs.Call.{simplify, open-with, read, write-back, verdict, example, simplified, answered, Case}
 
 -- S3(1) = S1(2) simplifies to 2 = S2(1): words 2, 65, gap 2.
 abbrev pub case-1 : Case
@@ -42,15 +44,21 @@ case-5-opened = record {
 abbrev pub case-5-short : Case
 case-5-short = record { start = 9 ∷ 9 ∷ []; calls = open-with 0 [] ∷ []; expected = answered 21 0 (9 ∷ 9 ∷ []) [] ∷ [] }
 
--- n = 1, list 1 = 0, 1 = S(0), rule neither: example 2, which is n × (K + 1).
+-- 25 words that a call may write to
+abbrev sevens : List ℕ
+sevens = replicate 25 7
+
+-- n = 1, list 1 = 0, 1 = S(0), rule neither: example 2, which is n × (K + 1). Written back, its rule has the two leaves' rows and two rows
+-- for each of the two entries.
 abbrev pub case-11 : Case
 case-11 =
-    let s = 1 ∷ 2 ∷ 2 ∷ 1 ∷ 0 ∷ 1 ∷ 32 ∷ 2 ∷ 0 ∷ 1 ∷ 1 ∷ 0 ∷ 2 ∷ [] in
+    let s : List ℕ = 1 ∷ 2 ∷ 2 ∷ 1 ∷ 0 ∷ 1 ∷ 32 ∷ 2 ∷ 0 ∷ 1 ∷ 1 ∷ 0 ∷ 2 ∷ [] in
     record {
       start = s;
-      calls = example 3 (7 ∷ []) ∷ verdict 3 ∷ read 3 (2 ∷ []) ∷ read 3 (1 ∷ []) ∷ example 0 (7 ∷ []) ∷ example 4 (7 ∷ []) ∷ [];
+      calls = example 3 (7 ∷ []) ∷ verdict 3 ∷ read 3 (2 ∷ []) ∷ read 3 (1 ∷ []) ∷ write-back 3 sevens ∷ example 0 (7 ∷ []) ∷ example 4 (7 ∷ []) ∷ [];
       expected =
           answered 0 0 s (2 ∷ []) ∷ answered 0 2 s [] ∷ answered 0 1 s (2 ∷ []) ∷ answered 0 0 s (1 ∷ [])
+          ∷ answered 0 6 s (0 ∷ 0 ∷ 0 ∷ 0 ∷ 1 ∷ 0 ∷ 0 ∷ 0 ∷ 2 ∷ 1 ∷ 32 ∷ 0 ∷ 5 ∷ 2 ∷ 0 ∷ 1 ∷ 2 ∷ 1 ∷ 0 ∷ 0 ∷ 5 ∷ 4 ∷ 0 ∷ 3 ∷ 7 ∷ [])
           ∷ answered 52 0 s (7 ∷ []) ∷ answered 41 0 s (7 ∷ []) ∷ [];
     }
 
