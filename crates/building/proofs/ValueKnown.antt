@@ -1,16 +1,16 @@
 -- Where the facts force every question of the list, no value is open: a handle asks questions of the list only, an equation of an accepted table has one
 -- truth wherever the list is answered alike, and Kleene's truth tables make known of known.
 use Prim.Native.Nat.{ℕ, zero, suc, _-_, _≤_, _<_, _+_}
-use mathlib.Core.Path.{_≡_, refl, sym, ap, _∙_, subst}
+use mathlib.Core.Path.{_≡_, sym, _∙_}
 use mathlib.Core.Bool.{Bool, true, false, cond, true≢false}
-use mathlib.Core.List.{List, [], _∷_, _++_}
+use mathlib.Core.List.{List}
 use native.Mathlib.Omega.{arith}
 use lib.Dec.{eqb}
 use lib.ListN.{getD}
 use Rattle.facts.specs.declared.decision.Decision.{Decision}
 use Rattle.facts.specs.declared.decision.Decision.the-variants.{Always, Never, Open}
 use Rattle.facts.specs.Facts.{Fact, Fits, Forces}
-use Rattle.facts.specs.State.{State, free, state-of, decide}
+use Rattle.facts.specs.State.{free, state-of, decide}
 use Rattle.operations.specs.Table.{table-fault}
 use Rattle.store.specs.declared.limits.Limits.{Limits}
 use Rattle.store.specs.Layout.{question-count, question, used, leaves}
@@ -18,9 +18,8 @@ use Rattle.store.specs.Tree.{Tree, leaf, node, tree, Ascending}
 use Rattle.tables.specs.Rows.{Row, row, row-count}
 use Rattle.terms.specs.declared.term.Equation.{Equation}
 use Rattle.terms.specs.Meaning.{Valuation, truth}
-use Rattle.walking.specs.declared.subject.Subject.{Subject}
-use Rattle.walking.specs.declared.subject.Subject.the-variants.{Table, Choice}
-use Rattle.walking.specs.Value.{not-value, agreed, choose-value, and-value, tree-value, row-value, row-values, table-value, subject-value}
+use Rattle.walking.specs.declared.subject.Subject.the-variants.{Choice}
+use Rattle.walking.specs.Value.{not-value, choose-value, and-value, tree-value, row-value, row-values, table-value, subject-value}
 use Rattle.facts.proofs.Decided.{decided}
 use Rattle.operations.proofs.RestsOn.{accepts}
 use Rattle.store.proofs.SoundFacts.{Sound}
@@ -81,7 +80,8 @@ module _ {s : List ℕ} (xs : List Fact) (t : free (state-of xs) ≡ true) (all 
   unfolding tree-value
   known-tree least (leaf true) h a = tt
   known-tree least (leaf false) h a = tt
-  known-tree least (node k y n) h a = known-branch (decide (state-of xs) (question s k)) (tree-value (question s) y (state-of xs)) (tree-value (question s) n (state-of xs))
+  known-tree least (node k y n) h a = known-branch (decide (state-of xs) (question s k))
+      (tree-value (question s) y (state-of xs)) (tree-value (question s) n (state-of xs))
       (known-question k (omega (arith, a .0)) (a .1)) (known-tree (suc k) y (omega arith) (a .2)) (known-tree (suc k) n (omega arith) (a .3))
 
   known-handle : {limits : Limits} → Sound limits s → (h : ℕ) → h < used s + leaves → Known (tree-value (question s) (tree s h) (state-of xs))

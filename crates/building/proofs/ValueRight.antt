@@ -18,9 +18,8 @@ use Rattle.tables.specs.Rows.{Row, row, row-count, row-truth, row-truths, rule-
 use Rattle.terms.specs.declared.term.Equation.{Equation}
 use Rattle.terms.specs.Meaning.{Valuation, truth}
 use Rattle.terms.specs.Words.{equation, term-of}
-use Rattle.walking.specs.declared.subject.Subject.{Subject}
-use Rattle.walking.specs.declared.subject.Subject.the-variants.{Table, Choice}
-use Rattle.walking.specs.Value.{not-value, agreed, choose-value, and-value, tree-value, row-value, row-values, subject-value}
+use Rattle.walking.specs.declared.subject.Subject.the-variants.{Choice}
+use Rattle.walking.specs.Value.{not-value, agreed, choose-value, and-value, tree-value, row-value, row-values, table-value, subject-value}
 use Rattle.building.specs.SubjectMeaning.{subject-meaning}
 use Rattle.facts.proofs.Decided.{decided}
 use Rattle.store.proofs.SoundFacts.{Sound}
@@ -93,7 +92,8 @@ values-length : (st : State) (table : List ℕ) (k : ℕ) → length (row-values
 unfolding row-values
 values-length st table zero = refl
 values-length st table (suc k) =
-    length-append (row-values st table k) (row-value st (λ i. getD (row-values st table k) i Never) (row table k) ∷ []) ∙ omega (arith, values-length st table k)
+    length-append (row-values st table k) (row-value st (λ i. getD (row-values st table k) i Never) (row table k) ∷ [])
+    ∙ omega (arith, values-length st table k)
 
 truths-length : (v : Valuation) (table : List ℕ) (k : ℕ) → length (row-truths v table k) ≡ k
 unfolding row-truths
@@ -158,13 +158,12 @@ module _ (xs : List Fact) (t : free (state-of xs) ≡ true) (v : Valuation) (h :
   says-handle {s = s} snd a l = says-by (tree-value (question s) (tree s a) (state-of xs)) (meaning s a v) (tree-truth (λ k. truth v (question s k)) (tree s a))
       (meaning-is-tree snd a l v) (says-tree (question s) (tree s a))
 
-  -- the subject's handles, if it has any, are handles of the store
-  pub says-subject : {limits : Limits} {s : List ℕ} → Sound limits s → (table : List ℕ) (subject : Subject)
-      → ((a b c : ℕ) → subject ≡ Choice a b c → (a < used s + leaves) × (b < used s + leaves) × (c < used s + leaves))
-      → Says (subject-value table subject s (state-of xs)) (subject-meaning table subject s v)
-  says-subject snd table Table in-store = says-rows table (row-count table) (row-count table - 1)
-  says-subject {s = s} snd table (Choice a b c) in-store =
-      let l = in-store a b c refl in
+  pub says-table : (table : List ℕ) → Says (table-value table (state-of xs)) (rule-meaning table v)
+  says-table table = says-rows table (row-count table) (row-count table - 1)
+
+  pub says-choice : {limits : Limits} {s : List ℕ} → Sound limits s → (a b c : ℕ) → a < used s + leaves → b < used s + leaves → c < used s + leaves
+      → (table : List ℕ) → Says (subject-value table (Choice a b c) s (state-of xs)) (subject-meaning table (Choice a b c) s v)
+  says-choice {s = s} snd a b c ha hb hc table =
       let value : ℕ → Decision = λ h. tree-value (question s) (tree s h) (state-of xs) in
       says-choose (value a) (value b) (value c) (meaning s a v) (meaning s b v) (meaning s c v)
-      (says-handle snd a (l .0)) (says-handle snd b (l .1)) (says-handle snd c (l .2))
+      (says-handle snd a ha) (says-handle snd b hb) (says-handle snd c hc)
