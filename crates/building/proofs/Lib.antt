@@ -8,3 +8,5 @@ pub mod WalkInserts
 pub mod ListWays
 pub mod CheckWays
 pub mod AddWays
+pub mod TableGood
+pub mod CallWays
