@@ -5,3 +5,8 @@ pub mod SubjectValue
 pub mod PartsInserted
 pub mod WalkSteps
 pub mod WalkInserts
+pub mod ListWays
+pub mod CheckWays
+pub mod AddWays
+pub mod TableGood
+pub mod CallWays

@@ -39,16 +39,16 @@ Listed s r = r .kind ≡ 2 → guard-listed s (simplify (row-equation r)) ≡ tr
 
 -- ---- the tests of a table
 -- where the test fails there is a refusal
-test-passes : (t : Bool) (a b : Built) → accepts b ≡ false → accepts (cond t a b) ≡ true → (t ≡ true) × (accepts a ≡ true)
+pub test-passes : (t : Bool) (a b : Built) → accepts b ≡ false → accepts (cond t a b) ≡ true → (t ≡ true) × (accepts a ≡ true)
 test-passes true a b n e = (refl, e)
 test-passes false a b n e = absurd (false≢true (sym n ∙ e))
 
-not-refused : (t : Bool) (a b : Built) → accepts a ≡ false → accepts (cond t a b) ≡ true → accepts b ≡ true
+pub not-refused : (t : Bool) (a b : Built) → accepts a ≡ false → accepts (cond t a b) ≡ true → accepts b ≡ true
 not-refused true a b n e = absurd (false≢true (sym n ∙ e))
 not-refused false a b n e = e
 
 -- where the first answer is a refusal, it stands
-both-accept : (a b : Built)
+pub both-accept : (a b : Built)
     → accepts (elim a as (λ _. Built) [
       | Handle h ↦ b
       | NotSound ↦ NotSound

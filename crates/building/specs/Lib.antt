@@ -1,1 +1,4 @@
 pub mod SubjectMeaning
+pub mod Parts
+pub mod Walked
+pub mod Choice

@@ -1,1 +1,19 @@
 // Build, negate, join and choose.
+mod adding;
+mod answer;
+mod calls;
+mod checking;
+mod listing;
+
+pub use adding::add;
+pub use answer::built_number;
+pub use answer::built_result;
+pub use calls::build;
+pub use calls::build_within;
+pub use calls::choose;
+pub use calls::choose_within;
+pub use calls::join;
+pub use calls::join_within;
+pub use calls::negate;
+pub use calls::negate_within;
+pub use checking::table_fault;

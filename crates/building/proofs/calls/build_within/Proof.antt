@@ -1,0 +1,52 @@
+-- `build_within` meets its contract: soundness, then the table, then the walk, as in the definition.
+use borrow.Author.Needs.{needs}
+use Rattle.building.proofs.CallWays.{entries-fit, list-within, build-unsound, build-refused, can-build, builds}
+use Rattle.building.proofs.calls.build_within.Statement.{statement}
+use Rattle.building.proofs.calls.build_within.Tie as tie
+
+is-sound-requires : tie.Need-is-sound-requires
+is-sound-requires c κs = search (needs, entries-fit)
+
+table-fault-requires : tie.Need-table-fault-requires
+table-fault-requires c κs = search (needs, list-within)
+
+enum-told : tie.Need-enum-told
+enum-told c = search needs
+
+same-length : tie.Need-same-length
+same-length c = search needs
+
+returns : tie.Need-returns
+returns c = search (needs, build-refused)
+
+add-requires : tie.Need-add-requires
+add-requires c κs =
+    let sound = c .before .before .before .before .before in
+    can-build _ _ (sound .before .is-sound .ensures) (sound .if1 .taken) _ (c .before .before .before .table-fault .ensures) (c .before .enum-told .given .1) (c .before .before .before .before .before .before .before .before .before .before .pre)
+
+same-length-2 : tie.Need-same-length-2
+same-length-2 c = search needs
+
+returns-2 : tie.Need-returns-2
+returns-2 c = search (needs, builds)
+
+same-length-3 : tie.Need-same-length-3
+same-length-3 c = search needs
+
+returns-3 : tie.Need-returns-3
+returns-3 c = search (needs, build-unsound)
+
+pub build-within-spec : {M : Type 1} → statement M
+build-within-spec =
+    tie.close
+    (tie.spec
+    is-sound-requires
+    table-fault-requires
+    enum-told
+    same-length
+    returns
+    add-requires
+    same-length-2
+    returns-2
+    same-length-3
+    returns-3)
