@@ -66,6 +66,40 @@ fn open(case: &[u8], n: u32, list: &[u32], store: &mut [u32]) {
     line();
 }
 
+// What a call that may add entries answered, with the store afterwards.
+fn built(b: operations::Built, store: &[u32]) {
+    answer(building::built_number(b), building::built_result(b));
+    words(store);
+    line();
+}
+
+fn build(case: &[u8], table: &[u32], store: &mut [u32]) {
+    call(case, b"build");
+    words(table);
+    built(building::build(table, store), store);
+}
+
+fn negate(case: &[u8], handle: u32, store: &mut [u32]) {
+    call(case, b"negate");
+    word(handle);
+    built(building::negate(handle, store), store);
+}
+
+fn join(case: &[u8], a: u32, b: u32, store: &mut [u32]) {
+    call(case, b"join");
+    word(a);
+    word(b);
+    built(building::join(a, b, store), store);
+}
+
+fn choose(case: &[u8], a: u32, b: u32, c: u32, store: &mut [u32]) {
+    call(case, b"choose");
+    word(a);
+    word(b);
+    word(c);
+    built(building::choose(a, b, c, store), store);
+}
+
 fn verdict(case: &[u8], store: &[u32], handle: u32) {
     call(case, b"verdict");
     word(handle);
@@ -194,6 +228,84 @@ fn neither() {
     written(&store, 3);
 }
 
+// Cases 6 to 8 on one store.
+fn three_equal(store: &mut [u32]) {
+    open(b"6", 3, &[2, 1, 3, 1, 3, 2], store);
+    build(b"6", &[2, 3, 2, 0], store);
+    build(b"7", &[2, 3, 1, 0], store);
+    build(b"8", &[2, 2, 1, 0, 2, 3, 2, 0, 4, 0, 1, 0, 2, 3, 1, 0, 3, 3, 0, 0, 4, 2, 4, 0], store);
+}
+
+// Handle 5 of that store put together again.
+fn joined(store: &mut [u32]) {
+    join(b"6", 5, 5, store);
+    join(b"6", 5, 0, store);
+    choose(b"6", 5, 1, 0, store);
+}
+
+// There is no handle 6, and no room for the negation of 5.
+fn refused_handles(store: &mut [u32]) {
+    choose(b"6", 1, 5, 6, store);
+    negate(b"6", 1, store);
+    negate(b"6", 5, store);
+}
+
+// Case 6 with 18 words.
+fn short_store(store: &mut [u32]) {
+    open(b"6", 3, &[2, 1, 3, 1, 3, 2], store);
+    build(b"6", &[2, 3, 2, 0], store);
+}
+
+// Case 9.
+fn example_23(store: &mut [u32]) {
+    open(b"9", 3, &[34, 1, 3, 33, 3, 66], store);
+    build(b"9", &[2, 34, 1, 0, 3, 0, 0, 0, 2, 3, 33, 0, 4, 1, 2, 0, 2, 3, 66, 0, 4, 3, 4, 0], store);
+}
+
+// Rules refused one after the other, on that store.
+fn refused_rules(store: &mut [u32]) {
+    build(b"edge", &[], store);
+    build(b"edge", &[0, 0, 0], store);
+    build(b"edge", &[6, 0, 0, 0], store);
+    build(b"edge", &[3, 0, 0, 0], store);
+}
+
+fn refused_equations(store: &mut [u32]) {
+    build(b"edge", &[2, 8192, 0, 0], store);
+    build(b"edge", &[2, 4, 0, 0], store);
+    build(b"edge", &[2, 3, 0, 0], store);
+    build(b"edge", &[2, 35, 99, 0], store);
+}
+
+// Case 12.
+fn negative_count(store: &mut [u32]) {
+    open(b"12", 2, &[2, 32, 2, 97], store);
+    build(b"12", &[2, 2, 32, 0, 2, 2, 97, 0, 4, 0, 1, 0], store);
+}
+
+fn on_three_equal(store: &mut [u32]) {
+    three_equal(store);
+    joined(store);
+    refused_handles(store);
+}
+
+fn on_example_23(store: &mut [u32]) {
+    example_23(store);
+    refused_rules(store);
+    refused_equations(store);
+}
+
+fn builds() {
+    let mut store = [7u32; 21];
+    on_three_equal(&mut store);
+    let mut short = [7u32; 18];
+    short_store(&mut short);
+    let mut twelve = [7u32; 12];
+    on_example_23(&mut twelve);
+    let mut seven = [7u32; 7];
+    negative_count(&mut seven);
+}
+
 // Words that are no store: none, a list that is no list, an entry twice, a word left behind.
 fn hostile() {
     verdict(b"hostile", &[], 0);
@@ -215,5 +327,6 @@ fn main() {
     edges();
     openings();
     neither();
+    builds();
     hostile();
 }
