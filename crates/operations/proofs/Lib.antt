@@ -3,3 +3,4 @@ pub mod MeaningAdded
 pub mod HandleLaw
 pub mod BooleanLaws
 pub mod NotVacuous
+pub mod WrittenAgain
