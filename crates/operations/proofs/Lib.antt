@@ -2,3 +2,5 @@ pub mod RestsOn
 pub mod MeaningAdded
 pub mod HandleLaw
 pub mod BooleanLaws
+pub mod NotVacuous
+pub mod WrittenAgain
