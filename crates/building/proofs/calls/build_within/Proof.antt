@@ -8,7 +8,9 @@ is-sound-requires : tie.Need-is-sound-requires
 is-sound-requires c κs = search (needs, entries-fit)
 
 table-fault-requires : tie.Need-table-fault-requires
-table-fault-requires c κs = search (needs, list-within)
+table-fault-requires c κs =
+    let sound = c .before in
+    list-within _ _ (sound .before .is-sound .ensures) (sound .if1 .taken)
 
 enum-told : tie.Need-enum-told
 enum-told c = search needs
@@ -28,13 +30,15 @@ same-length-2 : tie.Need-same-length-2
 same-length-2 c = search needs
 
 returns-2 : tie.Need-returns-2
-returns-2 c = search (needs, builds)
+returns-2 c =
+    let sound = c .before .before .before .before .before .before .before .before in
+    builds _ _ (sound .before .is-sound .ensures) (sound .if1 .taken) _ (c .before .before .before .before .before .before .table-fault .ensures) (c .before .before .before .before .enum-told .given .1) (c .before .before .add .ensures)
 
 same-length-3 : tie.Need-same-length-3
 same-length-3 c = search needs
 
 returns-3 : tie.Need-returns-3
-returns-3 c = search (needs, build-unsound)
+returns-3 c = build-unsound _ _ (c .before .is-sound .ensures) (c .if1 .left) _
 
 pub build-within-spec : {M : Type 1} → statement M
 build-within-spec =
