@@ -1,0 +1,46 @@
+// Joining two rules in both orders.
+ghost use Rattle.witness.specs.Joined.{SameHandles};
+use building::build;
+use building::join;
+use operations::Built;
+use store::Opened;
+use store::open;
+
+// The handles of two rules joined in both orders, where every call is accepted.
+pub enum Joins {
+    Both { one: u32, other: u32 },
+    Refused,
+}
+
+// Opens a store, builds two rules, and joins them in both orders.
+pub fn join_both_ways(
+    n: u32,
+    list: &[u32],
+    first: &[u32],
+    second: &[u32],
+    store: &mut [u32],
+) -> Joins
+    ensures { λ r. ⌜ SameHandles r ⌝ }
+{
+    let opened = open(n, list, store);
+    let Opened::Accepted = opened else {
+        return Joins::Refused;
+    };
+    let one = build(first, store);
+    let Built::Handle(a) = one else {
+        return Joins::Refused;
+    };
+    let other = build(second, store);
+    let Built::Handle(b) = other else {
+        return Joins::Refused;
+    };
+    let forward = join(a, b, store);
+    let Built::Handle(c) = forward else {
+        return Joins::Refused;
+    };
+    let backward = join(b, a, store);
+    let Built::Handle(d) = backward else {
+        return Joins::Refused;
+    };
+    Joins::Both { one: c, other: d }
+}
