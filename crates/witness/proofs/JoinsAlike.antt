@@ -6,7 +6,7 @@ use mathlib.Core.List.{List, [], _∷_}
 use lib.ListN.{length}
 use Rattle.operations.specs.declared.answer.Built.{Built}
 use Rattle.operations.specs.declared.answer.Built.the-variants.{Handle}
-use Rattle.operations.specs.Handles.{Call, build, join, answer-to, Rule, Pair, pair, first-ledger, rule-of, rule-of-call, enter, Books, after, run, In, newest, older, HandleLaw}
+use Rattle.operations.specs.Handles.{Call, build, join, answer-to, Rule, Pair, pair, first-ledger, rule-of, rule-of-call, enter, Books, after, run, In, newest, older}
 use Rattle.operations.specs.Operations as operation
 use Rattle.store.specs.declared.limits.Limits.{Limits}
 use Rattle.store.specs.declared.opening.Opened.{Opened}

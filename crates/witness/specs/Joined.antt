@@ -1,5 +1,4 @@
 -- What joining two rules in both orders promises.
-use Prim.Native.Nat.{ℕ}
 use mathlib.Core.Path.{_≡_}
 use Rattle.witness.specs.declared.joining.Joins.{Joins}
 use Rattle.witness.specs.declared.joining.Joins.the-variants.{Both, Refused}
