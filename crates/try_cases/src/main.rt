@@ -233,7 +233,36 @@ fn three_equal(store: &mut [u32]) {
     open(b"6", 3, &[2, 1, 3, 1, 3, 2], store);
     build(b"6", &[2, 3, 2, 0], store);
     build(b"7", &[2, 3, 1, 0], store);
-    build(b"8", &[2, 2, 1, 0, 2, 3, 2, 0, 4, 0, 1, 0, 2, 3, 1, 0, 3, 3, 0, 0, 4, 2, 4, 0], store);
+    build(
+        b"8",
+        &[
+            2,
+            2,
+            1,
+            0,
+            2,
+            3,
+            2,
+            0,
+            4,
+            0,
+            1,
+            0,
+            2,
+            3,
+            1,
+            0,
+            3,
+            3,
+            0,
+            0,
+            4,
+            2,
+            4,
+            0,
+        ],
+        store,
+    );
 }
 
 // Handle 5 of that store put together again.
@@ -259,7 +288,36 @@ fn short_store(store: &mut [u32]) {
 // Case 9.
 fn example_23(store: &mut [u32]) {
     open(b"9", 3, &[34, 1, 3, 33, 3, 66], store);
-    build(b"9", &[2, 34, 1, 0, 3, 0, 0, 0, 2, 3, 33, 0, 4, 1, 2, 0, 2, 3, 66, 0, 4, 3, 4, 0], store);
+    build(
+        b"9",
+        &[
+            2,
+            34,
+            1,
+            0,
+            3,
+            0,
+            0,
+            0,
+            2,
+            3,
+            33,
+            0,
+            4,
+            1,
+            2,
+            0,
+            2,
+            3,
+            66,
+            0,
+            4,
+            3,
+            4,
+            0,
+        ],
+        store,
+    );
 }
 
 // Rules refused one after the other, on that store.
