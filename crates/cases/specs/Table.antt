@@ -45,26 +45,30 @@ abbrev pub case-5-short : Case
 case-5-short = record { start = 9 ∷ 9 ∷ []; calls = open-with 0 [] ∷ []; expected = answered 21 0 (9 ∷ 9 ∷ []) [] ∷ [] }
 
 -- ---- n = 3, list 2 = 1, 3 = 1, 3 = 2
-abbrev three-equal : List ℕ
+abbrev pub three-equal : List ℕ
 three-equal = 2 ∷ 1 ∷ 3 ∷ 1 ∷ 3 ∷ 2 ∷ []
 
 -- the rule 3 = 2
-abbrev last-equal : List ℕ
+abbrev pub last-equal : List ℕ
 last-equal = 2 ∷ 3 ∷ 2 ∷ 0 ∷ []
 
 -- the rule 3 = 1
-abbrev outer-equal : List ℕ
+abbrev pub outer-equal : List ℕ
 outer-equal = 2 ∷ 3 ∷ 1 ∷ 0 ∷ []
 
 -- the rule 2 = 1 and 3 = 2 and not 3 = 1
-abbrev not-outer : List ℕ
+abbrev pub not-outer : List ℕ
 not-outer = 2 ∷ 2 ∷ 1 ∷ 0 ∷ 2 ∷ 3 ∷ 2 ∷ 0 ∷ 4 ∷ 0 ∷ 1 ∷ 0 ∷ 2 ∷ 3 ∷ 1 ∷ 0 ∷ 3 ∷ 3 ∷ 0 ∷ 0 ∷ 4 ∷ 2 ∷ 4 ∷ 0 ∷ []
+
+-- the words after building 3 = 2
+abbrev pub after-case-6 : List ℕ
+after-case-6 = 3 ∷ 3 ∷ 4 ∷ 2 ∷ 1 ∷ 3 ∷ 1 ∷ 3 ∷ 2 ∷ 2 ∷ 1 ∷ 0 ∷ 3 ∷ 1 ∷ 0 ∷ 2 ∷ 0 ∷ 3 ∷ 1 ∷ 2 ∷ 4 ∷ []
 
 -- Store of 21 words. Building 3 = 2 gives handle 5 and the words 3 3 4, 2 1 3 1 3 2, 2 1 0, 3 1 0, 2 0 3, 1 2 4. Case 7: then building 3 = 1
 -- gives handle 2; used stays 4. Case 8: 2 = 1 and 3 = 2 and not 3 = 1 is handle 0.
 abbrev pub cases-6-to-8 : Case
 cases-6-to-8 =
-    let s : List ℕ = 3 ∷ 3 ∷ 4 ∷ 2 ∷ 1 ∷ 3 ∷ 1 ∷ 3 ∷ 2 ∷ 2 ∷ 1 ∷ 0 ∷ 3 ∷ 1 ∷ 0 ∷ 2 ∷ 0 ∷ 3 ∷ 1 ∷ 2 ∷ 4 ∷ [] in
+    let s = after-case-6 in
     record {
       start = replicate 21 7;
       calls = open-with 3 three-equal ∷ build last-equal ∷ build outer-equal ∷ build not-outer ∷ [];
