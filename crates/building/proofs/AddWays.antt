@@ -14,16 +14,17 @@ use Rattle.facts.specs.Record.{state}
 use Rattle.facts.specs.State.{start}
 use Rattle.operations.specs.declared.answer.Built.{Built}
 use Rattle.operations.specs.declared.answer.Built.the-variants.{Handle, NoRoom}
+use Rattle.operations.specs.Operations.{unless-full}
 use Rattle.store.specs.declared.limits.Limits.{Limits}
 use Rattle.store.specs.Layout.{question-count, used, entries-start}
 use Rattle.store.specs.Outcome.{Outcome, outcome}
 use Rattle.walking.specs.declared.subject.Subject.{Subject}
 use Rattle.walking.specs.Ready.{CanWalk}
 use Rattle.walking.specs.Walk.{walk}
-use Rattle.building.specs.Walked.{walked, restored, FitLimits, CanAdd}
+use Rattle.building.specs.Walked.{walked, restored, CanAdd}
 use Rattle.store.proofs.SoundFacts.{Sound, sound-says, used-fits}
 use Rattle.store.proofs.StoreWords.{Agree, questions-agree}
-use Rattle.walking.proofs.SoundWalkable as walking
+use Rattle.walking.proofs.SoundWalkable.{sound-walkable, can-begin}
 use Rattle.walking.proofs.WalkKeeps.{GoesOn, walk-goes}
 
 -- ---- putting the words back
@@ -80,13 +81,6 @@ module _ (s t : List ℕ) (same : length t ≡ length s) (agree : Agree s t (use
   ])
 
 -- ---- the walk
--- the answer of a walk as that of an operation on the words s
-abbrev pub turned : List ℕ → Outcome Placed → Outcome Built
-turned s o = elim (o .answer) as (λ _. Outcome Built) [ At h ↦ outcome (Handle h) (o .words) | Full ↦ outcome NoRoom s ]
-
-fit-limits : {limits : Limits} → FitLimits limits → walking.FitLimits limits
-fit-limits f = record { fields-few = f .fields-few; steps-few = f .steps-few; questions-few = f .questions-few; entries-few = f .entries-few }
-
 module _ {limits : Limits} {table : List ℕ} {subject : Subject} {s : List ℕ} (can : CanAdd limits table subject s) where
   snd : Sound limits s
   snd = sound-says limits s (can .is-sound)
@@ -98,11 +92,11 @@ module _ {limits : Limits} {table : List ℕ} {subject : Subject} {s : List ℕ}
   has-used = omega (arith, snd .list-in)
 
   pub can-walk : (f : Facts) → state f ≡ start → CanWalk limits table subject s f 1 (question-count s)
-  can-walk f e = walking.can-begin table subject s (fit-limits (can .fit)) (can .is-sound) (can .named) e
+  can-walk f e = can-begin table subject s (can .fit) (can .is-sound) (can .named) e
 
   goes : GoesOn s (walk limits table subject (question-count s) 1 start s)
   goes = walk-goes limits (can .fit .entries-few) table subject (question-count s) 1 start s
-      (walking.sound-walkable limits s (fit-limits (can .fit)) (can .is-sound)) (omega arith) (omega arith)
+      (sound-walkable limits s (can .fit) (can .is-sound)) (omega arith) (omega arith)
 
   module _ (f : Facts) (ef : state f ≡ start) {r : Placed} {t : List ℕ}
       (e : outcome r t ≡ walk limits table subject (question-count s) 1 (state f) s) where
@@ -114,7 +108,7 @@ module _ {limits : Limits} {table : List ℕ} {subject : Subject} {s : List ℕ}
 
     pub walked-at : (h : ℕ) → r ≡ At h → outcome (Handle h) t ≡ walked limits table subject s
     unfolding walked
-    walked-at h er = ap (λ a. turned s (outcome a t)) (sym er) ∙ ap (turned s) the-walk
+    walked-at h er = ap (λ a. unless-full s (outcome a t)) (sym er) ∙ ap (unless-full s) the-walk
 
     module _ (same : length t ≡ length s) where
       pub can-restore : entries-start t + 3 * used s ≤ length t
@@ -123,4 +117,4 @@ module _ {limits : Limits} {table : List ℕ} {subject : Subject} {s : List ℕ}
       pub walked-full : r ≡ Full → {w : List ℕ} → w ≡ restored t (used s) → outcome NoRoom w ≡ walked limits table subject s
       unfolding walked
       walked-full er ew = ap (outcome NoRoom) (ew ∙ restored-same s t same (left .agrees) (used-fits snd) (snd .unused-zero))
-          ∙ ap (λ a. turned s (outcome a t)) (sym er) ∙ ap (turned s) the-walk
+          ∙ ap (λ a. unless-full s (outcome a t)) (sym er) ∙ ap (unless-full s) the-walk

@@ -11,7 +11,7 @@ use lib.ListN.{length}
 use Rattle.index.specs.Capacity.{capacity}
 use Rattle.operations.specs.declared.answer.Built.{Built}
 use Rattle.operations.specs.declared.answer.Built.the-variants.{Handle, NotSound, NoHandle, NoWords, NotRows, TooManyRows, BadRow, OutOfLimits, NotListed, NoRoom}
-use Rattle.operations.specs.Operations.{added, add-meaning, build, negate, join, choose}
+use Rattle.operations.specs.Operations.{added, add-meaning, build, negate, join, choose, unless-full}
 use Rattle.operations.specs.Table.{table-fault}
 use Rattle.store.specs.declared.limits.Limits.{Limits}
 use Rattle.store.specs.Layout.{heading-length, used, leaves, entries-start}
@@ -23,9 +23,10 @@ use Rattle.tables.specs.Rows.{rule-meaning}
 use Rattle.terms.specs.Meaning.{Valuation}
 use Rattle.walking.specs.declared.subject.Subject.{Subject}
 use Rattle.walking.specs.declared.subject.Subject.the-variants.{Table, Choice}
+use Rattle.walking.specs.Ready.{FitLimits}
 use Rattle.building.specs.Choice.{choice, CanChoose}
 use Rattle.building.specs.SubjectMeaning.{subject-meaning}
-use Rattle.building.specs.Walked.{walked, FitLimits, CanAdd}
+use Rattle.building.specs.Walked.{walked, CanAdd}
 use denote.Enum.Declared.{tagOf}
 use types.Run.{OneOf, miss}
 use Rattle.operations.proofs.answer.Built.{the-type}
@@ -33,7 +34,7 @@ use Rattle.operations.proofs.MeaningAdded.{finished-alike}
 use Rattle.operations.proofs.RestsOn.{accepts}
 use Rattle.store.proofs.Handles.{leaf-stays}
 use Rattle.store.proofs.SoundFacts.{Sound, sound-says}
-use Rattle.building.proofs.AddWays.{turned}
+use Rattle.walking.proofs.SoundWalkable.{store-limits-fit}
 use Rattle.building.proofs.CheckWays.{refusals}
 use Rattle.building.proofs.SubjectValue.{Given}
 use Rattle.building.proofs.TableGood.{good-table}
@@ -43,7 +44,7 @@ use Rattle.building.proofs.WalkInserts.{walk-inserts}
 walked-adds : {limits : Limits} {table : List ℕ} {subject : Subject} {s : List ℕ} → Sound limits s → Given limits table subject s
     → walked limits table subject s ≡ add-meaning limits s (subject-meaning table subject s)
 unfolding walked added
-walked-adds {s = s} snd g = ap (turned s) (walk-inserts snd g)
+walked-adds {s = s} snd g = ap (unless-full s) (walk-inserts snd g)
 
 module _ {limits : Limits} {a b c : ℕ} {s : List ℕ} (can : CanChoose limits a b c s) where
   pub choice-adds : (table : List ℕ) → CanAdd limits table (Choice a b c) s
@@ -84,7 +85,7 @@ pub entries-fit : {limits : Limits} → FitLimits limits → limits .entries ≤
 entries-fit f = f .entries-few
 
 pub limits-fit : {limits : Limits} → limits ≡ store-limits → FitLimits limits
-limits-fit e = rw e (record { fields-few = omega arith; steps-few = omega arith; questions-few = omega arith; entries-few = omega arith })
+limits-fit e = rw e store-limits-fit
 
 -- ---- what build is, by the fault of the table
 abbrev by-fault : Limits → List ℕ → List ℕ → Built → Outcome Built

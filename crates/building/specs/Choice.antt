@@ -8,7 +8,7 @@ use Rattle.store.specs.Layout.{used, leaves}
 use Rattle.store.specs.Meaning.{meaning}
 use Rattle.store.specs.Sound.{sound}
 use Rattle.terms.specs.Meaning.{Valuation}
-use Rattle.building.specs.Walked.{FitLimits}
+use Rattle.walking.specs.Ready.{FitLimits}
 
 abbrev pub choice : List ℕ → ℕ → ℕ → ℕ → Valuation → Bool
 choice s a b c v = cond (meaning s a v) (meaning s b v) (meaning s c v)

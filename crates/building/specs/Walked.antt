@@ -1,40 +1,28 @@
 -- Adding the diagram of a walk to a store: the walk's handle and words, or the words as they came where the store was full.
-use Prim.Native.Nat.{ℕ, _+_, _-_, _*_, _≤_}
+use Prim.Native.Nat.{ℕ, _+_, _-_, _*_}
 use mathlib.Core.Path.{_≡_}
 use mathlib.Core.Bool.{true}
 use mathlib.Core.List.{List, _++_}
 use lib.ListN.{length, take, set, replicate}
-use Rattle.diagram.specs.declared.placing.Placed.the-variants.{At, Full}
-use Rattle.facts.specs.Record.{last-field, most-noes, most-steps}
 use Rattle.facts.specs.State.{start}
 use Rattle.operations.specs.declared.answer.Built.{Built}
-use Rattle.operations.specs.declared.answer.Built.the-variants.{Handle, NoRoom}
+use Rattle.operations.specs.Operations.{unless-full}
 use Rattle.store.specs.declared.limits.Limits.{Limits}
 use Rattle.store.specs.Layout.{question-count, entries-start}
-use Rattle.store.specs.Outcome.{Outcome, outcome}
+use Rattle.store.specs.Outcome.{Outcome}
 use Rattle.store.specs.Sound.{sound}
 use Rattle.walking.specs.declared.subject.Subject.{Subject}
-use Rattle.walking.specs.Ready.{most-entries, Named}
+use Rattle.walking.specs.Ready.{FitLimits, Named}
 use Rattle.walking.specs.Walk.{walk}
 
--- "51, used plus new entries exceeds room": then every word is as it came
 unfoldable pub walked : Limits → List ℕ → Subject → List ℕ → Outcome Built
-walked limits table subject s =
-    let o = walk limits table subject (question-count s) 1 start s in
-    elim (o .answer) as (λ _. Outcome Built) [ At h ↦ outcome (Handle h) (o .words) | Full ↦ outcome NoRoom s ]
+walked limits table subject s = unless-full s (walk limits table subject (question-count s) 1 start s)
 
 -- so many entries used again, and zeros after them
 abbrev pub restored : List ℕ → ℕ → List ℕ
 restored s u =
     let from = entries-start s + 3 * u in
     take from (set s 2 u) ++ replicate (length s - from) 0
-
--- limits whose terms, questions and entries a walk has room for
-pub record FitLimits (limits : Limits) : Type 0 where
-  pub fields-few : limits .terms .field .0 ≤ last-field
-  pub steps-few : limits .terms .steps .0 ≤ most-steps
-  pub questions-few : limits .questions ≤ most-noes
-  pub entries-few : limits .entries ≤ most-entries
 
 -- a subject that can be walked over in a sound store
 pub record CanAdd (limits : Limits) (table : List ℕ) (subject : Subject) (s : List ℕ) : Type 0 where

@@ -1,10 +1,10 @@
 // Build, negate, join and choose.
 ghost use mathlib.Core.Path.{_≡_};
 ghost use Rattle.building.specs.Choice.{choice, CanChoose};
-ghost use Rattle.building.specs.Walked.{FitLimits};
 ghost use Rattle.operations.specs.Operations as operation;
 ghost use Rattle.store.specs.Limits as limit;
 ghost use Rattle.store.specs.Outcome.{outcome};
+ghost use Rattle.walking.specs.Ready.{FitLimits};
 use crate::adding::add;
 use crate::checking::table_fault;
 use operations::Built;

@@ -10,10 +10,6 @@ use Rattle.facts.specs.Least as least
 use Rattle.facts.specs.Least.{least-count}
 use Rattle.facts.specs.Record.{state, last-field, most-noes, most-steps, most-offset, Holds, Within}
 use Rattle.facts.specs.State.{at, free, yes-to}
-use Rattle.terms.specs.declared.term.Equation.{Equation}
-
-abbrev pub counts : ℕ → ℕ → Equation
-counts f x = least.counts f x
 
 -- a field of the record whose least count is small
 pub record CanFix (f : Facts) (x : ℕ) : Type 0 where
@@ -28,7 +24,7 @@ pub record CanFix (f : Facts) (x : ℕ) : Type 0 where
 
 pub record FixedAt (f : Facts) (x : ℕ) (r : Fixed) : Type 0 where
   pub count-is : r .count ≡ least-count (state f) x
-  pub state-is : state (r .facts) ≡ yes-to (state f) (counts x (least-count (state f) x))
+  pub state-is : state (r .facts) ≡ yes-to (state f) (least.counts x (least-count (state f) x))
 
 -- the record holds facts with few enough steps that no count of the least sheet is too large
 pub record HasLeast (f : Facts) (n : ℕ) : Type 0 where

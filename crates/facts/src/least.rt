@@ -1,5 +1,6 @@
 // The least sheet that fits the facts.
 ghost use mathlib.Core.Path.{_≡_};
+ghost use Rattle.facts.specs.Least as least;
 ghost use Rattle.facts.specs.LeastRecord as spec;
 use crate::record::FIELDS;
 use crate::record::Facts;
@@ -23,7 +24,7 @@ pub struct Sheet {
 
 // The question whether a field has a count.
 fn has_count(x: Field, count: u32) -> Equation
-    ensures { λ r. ⌜ r ≡ spec.counts (x .0) count ⌝ }
+    ensures { λ r. ⌜ r ≡ least.counts (x .0) count ⌝ }
 {
     Equation {
         left: Term {

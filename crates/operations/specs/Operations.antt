@@ -3,6 +3,7 @@ use Prim.Native.Nat.{ℕ, _+_}
 use mathlib.Core.Bool.{Bool, true, false, cond, not, _&&_}
 use mathlib.Core.List.{List}
 use lib.Dec.{ltb}
+use Rattle.diagram.specs.declared.placing.Placed.{Placed}
 use Rattle.diagram.specs.declared.placing.Placed.the-variants.{At, Full}
 use Rattle.diagram.specs.Insert.{insert}
 use Rattle.diagram.specs.Questions.{finished-in}
@@ -18,11 +19,12 @@ use Rattle.store.specs.Tree.{Tree}
 use Rattle.tables.specs.Rows.{rule-meaning}
 use Rattle.terms.specs.Meaning.{Valuation}
 
--- "51, used plus new entries exceeds room": then every word is as it came
+-- "51, used plus new entries exceeds room": then every word is as it came, here s
+abbrev pub unless-full : List ℕ → Outcome Placed → Outcome Built
+unless-full s o = elim (o .answer) as (λ _. Outcome Built) [ At h ↦ outcome (Handle h) (o .words) | Full ↦ outcome NoRoom s ]
+
 unfoldable pub added : Limits → Tree → List ℕ → Outcome Built
-added limits t s =
-    let o = insert limits t s in
-    elim (o .answer) as (λ _. Outcome Built) [ At h ↦ outcome (Handle h) (o .words) | Full ↦ outcome NoRoom s ]
+added limits t s = unless-full s (insert limits t s)
 
 -- "the finished diagram of that meaning"
 abbrev pub add-meaning : Limits → List ℕ → (Valuation → Bool) → Outcome Built

@@ -11,6 +11,8 @@ ghost use Rattle.index.specs.Entries.{Fit};
 ghost use Rattle.soundness.specs.Parts.{numbers-sound, body-sound};
 use store::Limits;
 use store::Opened;
+use store::entries_start;
+use store::wide;
 use terms::Field;
 use terms::TermLimits;
 
@@ -19,13 +21,6 @@ const HEADING: usize = 3;
 
 // The handles of the leaves never and always come before those of the entries.
 const LEAVES: usize = 2;
-
-// A word as a number of words, of entries or of handles.
-fn wide(word: u32) -> usize
-    ensures { λ r. ⌜ r ≡ word ⌝ }
-{
-    word as usize
-}
 
 // Whether an answer to a list is no refusal.
 fn is_accepted(o: Opened) -> bool
@@ -41,14 +36,6 @@ fn is_accepted(o: Opened) -> bool
         Opened::NotAbove => false,
         Opened::TooShort => false,
     }
-}
-
-// Where the entries begin.
-fn entries_start(s: &[u32]) -> usize
-    requires { ⌜ layout.heading-length ≤ length (now s) ⌝ }
-    ensures { λ r. ⌜ r ≡ layout.entries-start (now (s .entry)) ⌝ }
-{
-    HEADING + 2 * wide(s[1])
 }
 
 // Whether n, q and the list keep their rules, and the list lies within the words.

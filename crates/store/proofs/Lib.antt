@@ -6,7 +6,6 @@ pub mod TreePaths
 pub mod StoreWords
 pub mod SoundList
 pub mod OpenAccepts
-pub mod ListQuestions
 pub mod OpenedWords
 pub mod OpenSound
 pub mod OpenWays

@@ -15,34 +15,23 @@ use Rattle.terms.specs.Words.{allows}
 use Rattle.terms.specs.Form.{is-simplified}
 use Rattle.terms.proofs.Cases.{by-test}
 use Rattle.store.specs.declared.limits.Limits.{Limits}
-use Rattle.store.specs.declared.opening.Opened.{Opened}
-use Rattle.store.specs.declared.opening.Opened.the-variants.{Accepted, TooManyFields, OddList, TooManyQuestions, OutOfLimits, NotSimplified, NotAbove, TooShort}
+use Rattle.store.specs.declared.opening.Opened.the-variants.{Accepted, OutOfLimits, NotSimplified, NotAbove}
 use Rattle.store.specs.Layout.{field-count, question-count, list-words, question-in, question}
 use Rattle.store.specs.Limits.{terms-within}
-use Rattle.store.specs.Open.{above-last, question-fault, and-then, list-fault}
+use Rattle.store.specs.Open.{above-last, question-fault, list-fault}
+use Rattle.store.proofs.OpenAccepts.{both}
 use Rattle.store.proofs.SoundFacts.{Sound}
 use Rattle.store.proofs.Tests.{first-passes, second-passes}
-
--- both answers are accepted if the first of them that is a refusal is
-both-accepted : (a b : Opened) → and-then a b ≡ Accepted → (a ≡ Accepted) × (b ≡ Accepted)
-both-accepted Accepted b e = (refl, e)
-both-accepted TooManyFields b e = absurd (let z : _≡_ {A = ℕ} 0 1 = cc in omega arith)
-both-accepted OddList b e = absurd (let z : _≡_ {A = ℕ} 0 1 = cc in omega arith)
-both-accepted TooManyQuestions b e = absurd (let z : _≡_ {A = ℕ} 0 1 = cc in omega arith)
-both-accepted OutOfLimits b e = absurd (let z : _≡_ {A = ℕ} 0 1 = cc in omega arith)
-both-accepted NotSimplified b e = absurd (let z : _≡_ {A = ℕ} 0 1 = cc in omega arith)
-both-accepted NotAbove b e = absurd (let z : _≡_ {A = ℕ} 0 1 = cc in omega arith)
-both-accepted TooShort b e = absurd (let z : _≡_ {A = ℕ} 0 1 = cc in omega arith)
 
 module _ (limits : TermLimits) (words : List ℕ) where
   pub each-accepted : (left k : ℕ) → list-fault limits words left k ≡ Accepted → (j : ℕ) → k ≤ j → j < k + left → question-fault limits words j ≡ Accepted
   unfolding list-fault
   each-accepted zero k e j l h = absurd (omega arith)
   each-accepted (suc left) k e j l h =
-      let both = both-accepted (question-fault limits words k) (list-fault limits words left (k + 1)) e in
+      let parts = both (question-fault limits words k) (list-fault limits words left (k + 1)) e in
       elim (ℕ-discrete j k) [
-        | yes d ↦ ap (question-fault limits words) d ∙ both .0
-        | no n ↦ each-accepted left (k + 1) (both .1) j (omega arith) (omega arith)
+        | yes d ↦ ap (question-fault limits words) d ∙ parts .0
+        | no n ↦ each-accepted left (k + 1) (parts .1) j (omega arith) (omega arith)
       ]
 
   -- what is accepted passes the first test
@@ -76,8 +65,8 @@ module _ {limits : Limits} {s : List ℕ} (snd : Sound limits s) where
       let within = terms-within limits (field-count s) in
       let q = question s k in
       let passed = each-accepted within (list-words s) (question-count s) 0 (snd .list-kept) (k - 1) (omega arith) (omega arith) in
-      let both = accepted-allows within (list-words s) (k - 1) passed in
+      let allowed = accepted-allows within (list-words s) (k - 1) passed in
       record {
-        left = allows-says within (q .left) (first-passes (allows within (q .left)) (allows within (q .right)) both);
-        right = allows-says within (q .right) (second-passes (allows within (q .left)) (allows within (q .right)) both);
+        left = allows-says within (q .left) (first-passes (allows within (q .left)) (allows within (q .right)) allowed);
+        right = allows-says within (q .right) (second-passes (allows within (q .left)) (allows within (q .right)) allowed);
       }

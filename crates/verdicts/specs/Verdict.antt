@@ -13,7 +13,7 @@ use Rattle.verdicts.specs.declared.deciding.Verdict.the-variants.{Never,
 use Rattle.verdicts.specs.declared.leaves.Leaves.{Leaves}
 use Rattle.verdicts.specs.Leaves.{reached}
 
--- some leaf is always reached
+-- at least one of the two leaves is reached
 abbrev pub by-leaves : Leaves → Verdict
 by-leaves l = cond (l .always) (cond (l .never) Sometimes Always) Never
 

@@ -21,7 +21,8 @@ use Rattle.tables.specs.Rows.{Row, row, row-count}
 use Rattle.terms.specs.declared.term.Term.{Term}
 use Rattle.terms.specs.Words.{equation, term-of}
 use Rattle.walking.specs.Parts.{value-number, said}
-use Rattle.walking.specs.Ready.{most-rows, GoodRow, AsksTable, AsksRow}
+use Rattle.tables.specs.WriteBack.{most-rows}
+use Rattle.walking.specs.Ready.{GoodRow, AsksTable, AsksRow}
 use Rattle.walking.specs.Value.{not-value, agreed, and-value, choose-value, row-value, row-values, table-value}
 use Rattle.facts.proofs.HeldFacts.{holds-ready}
 

@@ -1,29 +1,22 @@
 -- A sound store is fit for a walk, since what a walk relies on is part of what the rules of a sound store say; so a walk over all questions can
 -- begin with no facts.
-use Prim.Native.Nat.{ℕ, _≤_}
+use Prim.Native.Nat.{ℕ}
 use mathlib.Core.Path.{_≡_}
 use mathlib.Core.Bool.{true}
 use mathlib.Core.List.{List}
 use native.Mathlib.Omega.{arith}
 use Rattle.facts.specs.declared.record.Facts.{Facts}
-use Rattle.facts.specs.Record.{state, last-field, most-noes, most-steps}
+use Rattle.facts.specs.Record.{state, most-steps}
 use Rattle.facts.specs.State.{start}
 use Rattle.store.specs.declared.limits.Limits.{Limits}
 use Rattle.store.specs.Layout.{question-count}
 use Rattle.store.specs.Limits.{store-limits}
 use Rattle.store.specs.Sound.{sound}
 use Rattle.walking.specs.declared.subject.Subject.{Subject}
-use Rattle.walking.specs.Ready.{most-entries, Walkable, Named, CanWalk}
+use Rattle.walking.specs.Ready.{FitLimits, Walkable, Named, CanWalk}
 use Rattle.facts.proofs.HeldFacts.{holds-none}
-use Rattle.store.proofs.ListQuestions.{question-left, question-right}
 use Rattle.store.proofs.SoundFacts.{sound-says, used-fits, used-few}
-
--- limits whose terms and questions a record of facts has room for
-pub record FitLimits (limits : Limits) : Type 0 where
-  pub fields-few : limits .terms .field .0 ≤ last-field
-  pub steps-few : limits .terms .steps .0 ≤ most-steps
-  pub questions-few : limits .questions ≤ most-noes
-  pub entries-few : limits .entries ≤ most-entries
+use Rattle.store.proofs.SoundList.{sound-question}
 
 pub store-limits-fit : FitLimits store-limits
 store-limits-fit = record { fields-few = omega arith; steps-few = omega arith; questions-few = omega arith; entries-few = omega arith }
@@ -34,13 +27,12 @@ sound-walkable limits s fit t =
     record {
       list-short = omega (arith, snd .questions-in, fit .questions-few);
       list-small = λ k first last.
-          let l = question-left snd k first last in
-          let r = question-right snd k first last in
+          let kept = sound-question snd k first last in
           record {
-            left-in = omega (arith, l .field-in, snd .fields-in, fit .fields-few);
-            right-in = omega (arith, r .field-in, snd .fields-in, fit .fields-few);
-            left-steps = omega (arith, l .steps-in, fit .steps-few);
-            right-steps = omega (arith, r .steps-in, fit .steps-few);
+            left-in = omega (arith, kept .left .field-in, snd .fields-in, fit .fields-few);
+            right-in = omega (arith, kept .right .field-in, snd .fields-in, fit .fields-few);
+            left-steps = omega (arith, kept .left .steps-in, fit .steps-few);
+            right-steps = omega (arith, kept .right .steps-in, fit .steps-few);
           };
       used-few = omega (arith, used-few snd, fit .entries-few);
       used-in = used-fits snd;

@@ -4,17 +4,26 @@ use mathlib.Core.Path.{_≡_}
 use mathlib.Core.List.{List}
 use lib.ListN.{length}
 use Rattle.facts.specs.declared.record.Facts.{Facts}
-use Rattle.facts.specs.Record.{most-noes, most-steps, Small, Holds}
+use Rattle.facts.specs.Record.{last-field, most-noes, most-steps, Small, Holds}
 use Rattle.store.specs.declared.limits.Limits.{Limits}
+use Rattle.store.specs.Limits.{store-limits}
 use Rattle.store.specs.Layout.{question-count, used, question, entries-start, entry, leaves}
 use Rattle.tables.specs.Rows.{Row, row, row-count}
+use Rattle.tables.specs.WriteBack.{most-rows}
 use Rattle.terms.specs.Words.{equation, term-of}
 use Rattle.walking.specs.declared.subject.Subject.{Subject}
 use Rattle.walking.specs.declared.subject.Subject.the-variants.{Table, Choice}
 
 -- "at most 4,096 entries"
 abbrev pub most-entries : ℕ
-most-entries = 4096
+most-entries = store-limits .entries
+
+-- limits whose terms, questions and entries a walk has room for
+pub record FitLimits (limits : Limits) : Type 0 where
+  pub fields-few : limits .terms .field .0 ≤ last-field
+  pub steps-few : limits .terms .steps .0 ≤ most-steps
+  pub questions-few : limits .questions ≤ most-noes
+  pub entries-few : limits .entries ≤ most-entries
 
 -- The words of a store as far as a walk relies on them: less than that the store is sound, and left so by every entry that is added.
 pub record Walkable (s : List ℕ) : Type 0 where
@@ -52,10 +61,6 @@ pub record Follows (s : List ℕ) (handle : ℕ) (f : Facts) : Type 0 where
   pub walkable : Walkable s
   pub named : handle < used s + leaves
   pub holds : Holds most-noes most-steps f
-
--- "at most 256 rows"
-abbrev pub most-rows : ℕ
-most-rows = 256
 
 -- "references go to lower rows"; and an equation that can be asked
 pub record GoodRow (r : Row) (i : ℕ) : Type 0 where
