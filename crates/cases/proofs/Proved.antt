@@ -2,8 +2,9 @@
 use mathlib.Core.Path.{_≡_, refl}
 use mathlib.Core.List.{List, [], _∷_, map}
 use Rattle.diagram.specs.Finish.{same-tree, parts, finish}
-use Rattle.diagram.specs.Insert.{find-entry, with-entry, add-entry, place-entry, insert}
+use Rattle.diagram.specs.Insert.{with-entry, add-entry, place-entry, insert}
 use Rattle.diagram.specs.Questions.{questions-from}
+use Rattle.index.specs.Entries.{first, is-entry}
 use Rattle.operations.specs.Operations.{added, build, choose, join, negate}
 use Rattle.operations.specs.Table.{on-list, well-formed, equation-fault, row-fault, rows-fault, table-fault}
 use Rattle.tables.specs.Rows.{row-truth, row-truths}
@@ -43,5 +44,5 @@ each [] e = tt
 each (c ∷ table) e = (cc, each table (cc))
 
 pub cases-hold : All Holds cases
-unfolding found wanted is-simplified count lex simplify-words allows simplify larger-left lowered settled question-fault list-fault opening opened-words open-store all-below all-zero heading-sound entry-sound entries-differ sound next follow tree-within read-sheet mark-parts marks-down reachable marked-before row-of entry-rows entries-rows written-rows write-back plan decide spacing some-sheet reached verdict first-from fixed counts-from best example same-tree parts finish find-entry with-entry add-entry place-entry insert questions-from added build choose join negate on-list well-formed equation-fault row-fault rows-fault table-fault row-truth row-truths
+unfolding found wanted is-simplified count lex simplify-words allows simplify larger-left lowered settled question-fault list-fault opening opened-words open-store all-below all-zero heading-sound entry-sound entries-differ sound next follow tree-within read-sheet mark-parts marks-down reachable marked-before row-of entry-rows entries-rows written-rows write-back plan decide spacing some-sheet reached verdict first-from fixed counts-from best example same-tree parts finish first is-entry with-entry add-entry place-entry insert questions-from added build choose join negate on-list well-formed equation-fault row-fault rows-fault table-fault row-truth row-truths
 cases-hold = each cases refl

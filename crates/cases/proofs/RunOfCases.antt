@@ -3,8 +3,9 @@ use Prim.Native.Nat.{ℕ}
 use mathlib.Core.Path.{_≡_, refl}
 use mathlib.Core.List.{List, [], _∷_, map}
 use Rattle.diagram.specs.Finish.{same-tree, parts, finish}
-use Rattle.diagram.specs.Insert.{find-entry, with-entry, add-entry, place-entry, insert}
+use Rattle.diagram.specs.Insert.{with-entry, add-entry, place-entry, insert}
 use Rattle.diagram.specs.Questions.{questions-from}
+use Rattle.index.specs.Entries.{first, is-entry}
 use Rattle.facts.specs.State.{plan, decide, spacing, some-sheet}
 use Rattle.operations.specs.Handles.{build, Books, first-ledger, run}
 use Rattle.operations.specs.Operations.{added}
@@ -30,5 +31,5 @@ three-builds =
 
 -- the words are those of the paper, and the ledger's handles, the latest first, are 0, 2, 5 before the two leaves
 pub run-of-cases : (three-builds .words ≡ after-case-6) × (map (λ p. p .handle) (three-builds .ledger) ≡ 0 ∷ 2 ∷ 5 ∷ 1 ∷ 0 ∷ [])
-unfolding run opened-words same-tree parts finish find-entry with-entry add-entry place-entry insert questions-from plan decide spacing some-sheet added operation.build on-list well-formed equation-fault row-fault rows-fault table-fault question-fault list-fault all-below all-zero heading-sound entry-sound entries-differ sound tree-within row-truth row-truths is-simplified count lex simplify larger-left lowered settled allows
+unfolding run opened-words same-tree parts finish first is-entry with-entry add-entry place-entry insert questions-from plan decide spacing some-sheet added operation.build on-list well-formed equation-fault row-fault rows-fault table-fault question-fault list-fault all-below all-zero heading-sound entry-sound entries-differ sound tree-within row-truth row-truths is-simplified count lex simplify larger-left lowered settled allows
 run-of-cases = (refl, refl)

@@ -11,13 +11,14 @@ use borrow.Author.Tests.{lt-ltb, le-ltb}
 use lib.Dec.{ltb}
 use lib.ListN.{length, getD, set, length-set}
 use lib.Seq.{getD-set-same, getD-set-other}
+use Rattle.index.specs.Entries.{first, is-entry, find-entry}
 use Rattle.store.specs.declared.limits.Limits.{Limits}
 use Rattle.store.specs.Layout.{heading-length, question-count, used, Entry, entries-start, entry, leaves, room}
 use Rattle.store.specs.Outcome.{Outcome, outcome}
 use Rattle.store.specs.Sound.{same-entry}
 use Rattle.diagram.specs.declared.placing.Placed.{Placed}
 use Rattle.diagram.specs.declared.placing.Placed.the-variants.{At, Full}
-use Rattle.diagram.specs.Insert.{find-entry, with-entry, add-entry, place-entry}
+use Rattle.diagram.specs.Insert.{with-entry, add-entry, place-entry}
 use Rattle.store.proofs.SoundFacts.{EntryKept, Sound, same-entry-says, same-entry-from}
 use Rattle.store.proofs.StoreWords.{Agree, fields-agree, questions-agree, list-agrees, entry-agrees}
 use Rattle.terms.proofs.Cases.{by-test, by-lt}
@@ -29,12 +30,12 @@ Absent s e = (i : ℕ) → i < used s → entry s i ≢ e
 
 module _ (s : List ℕ) (e : Entry) where
   find-from : (P : ℕ → Type 0) (left i : ℕ) → ((j : ℕ) → j < i + left → entry s j ≡ e → P j)
-      → (((j : ℕ) → i ≤ j → j < i + left → entry s j ≢ e) → P (i + left)) → P (find-entry s e left i)
-  unfolding find-entry
+      → (((j : ℕ) → i ≤ j → j < i + left → entry s j ≢ e) → P (i + left)) → P (first (is-entry s e) left i)
+  unfolding first is-entry
   find-from P zero i here none = let z : i + 0 ≡ i = omega arith in subst P z (none (λ j h l. absurd (omega arith)))
   find-from P (suc left) i here none =
       let next : i + suc left ≡ i + 1 + left = omega arith in
-      by-test (λ t. P (elim t [ true ↦ i | false ↦ find-entry s e left (i + 1) ])) (same-entry (entry s i) e)
+      by-test (λ t. P (elim t [ true ↦ i | false ↦ first (is-entry s e) left (i + 1) ])) (same-entry (entry s i) e)
       (λ t. here i (omega arith) (same-entry-says (entry s i) e t))
       (λ f. find-from P left (i + 1) (λ j h. here j (omega arith)) (λ later. subst P next (none (λ j h l. elim (ℕ-discrete j i) [
         | yes d ↦ λ c. true≢false (sym (same-entry-from (entry s i) e (ap (entry s) (sym d) ∙ c)) ∙ f)
@@ -42,7 +43,7 @@ module _ (s : List ℕ) (e : Entry) where
       ]))))
 
   -- The entry that is found is the one looked for; where none is, no entry is.
-  pub find-cases : (P : ℕ → Type 0) → ((i : ℕ) → i < used s → entry s i ≡ e → P i) → (Absent s e → P (used s)) → P (find-entry s e (used s) 0)
+  pub find-cases : (P : ℕ → Type 0) → ((i : ℕ) → i < used s → entry s i ≡ e → P i) → (Absent s e → P (used s)) → P (find-entry s (used s) e)
   find-cases P here none =
       let z : 0 + used s ≡ used s = omega arith in
       find-from P (used s) 0 (λ j h. here j (omega arith)) (λ a. subst P (sym z) (none (λ i h. a i (omega arith) (omega arith))))

@@ -5,10 +5,10 @@ use mathlib.Core.Bool.{Bool, true, false, cond, _||_}
 use mathlib.Core.List.{List, [], _∷_}
 use lib.Dec.{ltb}
 use lib.ListN.{length, set}
+use Rattle.index.specs.Entries.{find-entry}
 use Rattle.store.specs.declared.limits.Limits.{Limits}
-use Rattle.store.specs.Layout.{Entry, used, entries-start, entry, leaves, room}
+use Rattle.store.specs.Layout.{Entry, used, entries-start, leaves, room}
 use Rattle.store.specs.Outcome.{Outcome, outcome}
-use Rattle.store.specs.Sound.{same-entry}
 use Rattle.store.specs.Tree.{Tree, leaf, node, tree}
 use Rattle.diagram.specs.declared.placing.Placed.{Placed}
 use Rattle.diagram.specs.declared.placing.Placed.the-variants.{At, Full}
@@ -16,11 +16,6 @@ use Rattle.diagram.specs.Finish.{same-tree}
 
 abbrev pub an-entry : ℕ → ℕ → ℕ → Entry
 an-entry k y n = record { question = k; yes-to = y; no-to = n }
-
--- the first of so many entries from the i-th on that is this one, or the number after the last
-unfoldable pub find-entry : List ℕ → Entry → ℕ → ℕ → ℕ
-find-entry s e zero i = i
-find-entry s e (suc left) i = elim (same-entry (entry s i) e) [ true ↦ i | false ↦ find-entry s e left (i + 1) ]
 
 -- the words with the entry after the last
 unfoldable pub with-entry : List ℕ → Entry → List ℕ
@@ -35,7 +30,7 @@ add-entry limits s e = cond (ltb (used s) (room limits s)) (outcome (At (used s 
 -- "one already present is used again"
 unfoldable pub place-entry : Limits → List ℕ → Entry → Outcome Placed
 place-entry limits s e =
-    let i = find-entry s e (used s) 0 in
+    let i = find-entry s (used s) e in
     cond (ltb i (used s)) (outcome (At (i + leaves)) s) (add-entry limits s e)
 
 -- go on with the handle and the words, unless the store was full

@@ -3,3 +3,4 @@ pub mod FirstLaws
 pub mod SameEntry
 pub mod ChainLaws
 pub mod IndexLaws
+pub mod EntryAdded

@@ -3,6 +3,7 @@ pub mod FollowWays
 pub mod RowWays
 pub mod ValueWays
 pub mod PlaceWays
+pub mod PlaceIndexed
 pub mod AddedEntry
 pub mod WalkKeeps
 pub mod WalkCalls

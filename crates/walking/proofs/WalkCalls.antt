@@ -18,7 +18,7 @@ use Rattle.store.specs.Outcome.{outcome}
 use Rattle.terms.specs.declared.term.Equation.{Equation}
 use Rattle.walking.specs.declared.subject.Subject.{Subject}
 use Rattle.walking.specs.declared.subject.Subject.the-variants.{Table, Choice}
-use Rattle.walking.specs.Ready.{Walkable, InList, HasEntries, Named, HasValue, CanWalk}
+use Rattle.walking.specs.Ready.{Walkable, InList, Named, HasValue, CanWalk}
 use Rattle.walking.specs.Value.{subject-value}
 use Rattle.walking.specs.Walk.{walk}
 use Rattle.facts.proofs.HeldFacts.{holds-ready, holds-yes, holds-no}
@@ -112,9 +112,3 @@ module _ {limits : Limits} {table : List ℕ} {subject : Subject} {s : List ℕ}
     pub can-no : {g : Facts} → state g ≡ no-to (state f) q → CanWalk limits table subject s₁ g (k + 1) (left - 1)
     can-no {g} eg = can-next (x .can) (x .more) s₁ g (yes-goes .walkable) (yes-goes .grown) same₁
         (holds-more (omega (arith, x .can .from-one)) (holds-no (x .can .holds) q small decides-open eg))
-
-    -- ---- after the no part
-    pub can-place : (g : Facts) {r′ : Placed} {s₂ : List ℕ} → outcome r′ s₂ ≡ walk limits table subject (left - 1) (k + 1) (state g) s₁ → HasEntries s₂
-    can-place g e₂ =
-        let w = subst (GoesOn s₁) (sym e₂) (part-goes s₁ (state g) (yes-goes .walkable) same₁) .walkable in
-        record { all-in = w .used-in; few = w .used-few }

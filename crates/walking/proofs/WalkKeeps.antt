@@ -7,10 +7,11 @@ use native.Mathlib.Omega.{arith}
 use lib.ListN.{length}
 use Rattle.diagram.specs.declared.placing.Placed.{Placed}
 use Rattle.diagram.specs.declared.placing.Placed.the-variants.{At, Full}
-use Rattle.diagram.specs.Insert.{an-entry, find-entry, with-entry, add-entry, place-entry, then-place}
+use Rattle.diagram.specs.Insert.{an-entry, with-entry, add-entry, place-entry, then-place}
 use Rattle.facts.specs.declared.decision.Decision.{Decision}
 use Rattle.facts.specs.declared.decision.Decision.the-variants.{Always, Never, Open}
 use Rattle.facts.specs.State.{State, no-to, yes-to, decide}
+use Rattle.index.specs.Entries.{find-entry}
 use Rattle.store.specs.declared.limits.Limits.{Limits}
 use Rattle.store.specs.Layout.{question-count, used, question, entries-start, leaves, room}
 use Rattle.store.specs.Outcome.{Outcome, outcome}
@@ -84,8 +85,8 @@ module _ (limits : Limits) (few : limits .entries ≤ most-entries) {s : List �
 
   place-goes : GoesOn s (place-entry limits s (an-entry k y n))
   unfolding place-entry
-  place-goes = by-lt (λ t. GoesOn s (cond t (outcome (At (find-entry s (an-entry k y n) (used s) 0 + leaves)) s) (add-entry limits s (an-entry k y n))))
-      (find-entry s (an-entry k y n) (used s) 0) (used s) (λ l. stays-at w _ (omega arith)) (λ _. add-goes)
+  place-goes = by-lt (λ t. GoesOn s (cond t (outcome (At (find-entry s (used s) (an-entry k y n) + leaves)) s) (add-entry limits s (an-entry k y n))))
+      (find-entry s (used s) (an-entry k y n)) (used s) (λ l. stays-at w _ (omega arith)) (λ _. add-goes)
 
   parts-go : GoesOn s (place-parts limits k y n s)
   unfolding place-parts

@@ -4,6 +4,7 @@ use mathlib.Core.Path.{_≡_}
 use mathlib.Core.List.{List}
 use lib.ListN.{length}
 use Rattle.facts.specs.declared.record.Facts.{Facts}
+use Rattle.index.specs.Chains.{Ready}
 use Rattle.facts.specs.Record.{last-field, most-noes, most-steps, Small, Holds}
 use Rattle.store.specs.declared.limits.Limits.{Limits}
 use Rattle.store.specs.Limits.{store-limits}
@@ -50,6 +51,15 @@ pub record HasEntry (s : List ℕ) (i : ℕ) : Type 0 where
 pub record HasEntries (s : List ℕ) : Type 0 where
   pub all-in : entries-start s + 3 * used s ≤ length s
   pub few : used s ≤ most-entries
+
+-- no two of the used entries are equal, and they are in the index
+abbrev pub InIndex : List ℕ → List ℕ → List ℕ → Type 0
+InIndex s lasts links = Ready s (entries-start s) (used s) lasts links
+
+-- an entry can be looked up, and one more goes into the index where the limits have room for it
+pub record CanPlace (limits : Limits) (s lasts links : List ℕ) : Type 0 where
+  pub entries-few : limits .entries ≤ most-entries
+  pub index : InIndex s lasts links
 
 -- one entry more lies within the words
 pub record HasRoom (s : List ℕ) : Type 0 where

@@ -1,50 +1,19 @@
-// Adding an entry to a store, unless it is there.
+// Adding an entry to a store, unless it is there: an index over the entries finds one that is there.
 ghost use mathlib.Core.Path.{_≡_};
-ghost use Prim.Native.Nat.{_<_};
 ghost use Rattle.diagram.specs.Insert as spec;
 ghost use Rattle.store.specs.Layout as layout;
 ghost use Rattle.store.specs.Outcome.{outcome};
-ghost use Rattle.store.specs.Sound.{same-entry};
-ghost use Rattle.walking.specs.Ready.{HasEntry, HasEntries, HasRoom};
+ghost use Rattle.walking.specs.Ready.{HasEntries, HasRoom, InIndex, CanPlace};
 ghost use Rattle.walking.specs.Walk as walking;
-use crate::entries::HEADING;
 use crate::entries::entries_start;
-use crate::entries::no_of;
-use crate::entries::question_of;
 use crate::entries::wide;
-use crate::entries::yes_of;
 use crate::handles::LEAVES;
 use diagram::Placed;
+use index::Lasts;
+use index::Links;
+use index::find;
+use index::put;
 use store::Limits;
-
-// Whether the i-th entry has the question number k, the yes handle y and the no handle n.
-fn is_entry(s: &[u32], i: usize, k: u32, y: u32, n: u32) -> bool
-    requires { ⌜ HasEntry (now s) i ⌝ }
-    ensures { λ r. ⌜ r ≡ same-entry (layout.entry (now (s .entry)) i) (spec.an-entry k y n) ⌝ }
-{
-    if question_of(s, i) == k {
-        if yes_of(s, i) == y {
-            return no_of(s, i) == n;
-        }
-    }
-    false
-}
-
-// The number of the first used entry that is (k, y, n), or the number used where none is.
-fn find_entry(s: &[u32], k: u32, y: u32, n: u32) -> usize
-    requires { ⌜ HasEntries (now s) ⌝ }
-    ensures { λ r. ⌜ r ≡ spec.find-entry (now (s .entry)) (spec.an-entry k y n) (layout.used (now (s .entry))) 0 ⌝ }
-{
-    let used = wide(s[2]);
-    let mut i: usize = 0;
-    while i < used {
-        if is_entry(s, i, k, y, n) {
-            return i;
-        }
-        i += 1;
-    }
-    i
-}
 
 // How many entries the store has room for.
 fn room(limits: Limits, s: &[u32]) -> usize
@@ -70,29 +39,49 @@ fn append(store: &mut [u32], k: u32, y: u32, n: u32)
 }
 
 // The handle of the entry (k, y, n): one that is there, or a new one where there is room.
-pub fn place_entry(limits: Limits, store: &mut [u32], k: u32, y: u32, n: u32) -> Placed
-    requires { ⌜ HasEntries (now store) ⌝ }
+pub fn place_entry(
+    limits: Limits,
+    store: &mut [u32],
+    lasts: &mut Lasts,
+    links: &mut Links,
+    k: u32,
+    y: u32,
+    n: u32,
+) -> Placed
+    requires { ⌜ CanPlace limits (now store) (now lasts) (now links) ⌝ }
     ensures { λ r. ⌜ outcome r (now (store .exit)) ≡ spec.place-entry limits (now (store .entry)) (spec.an-entry k y n) ⌝ }
+    ensures { λ r. ⌜ InIndex (now (store .exit)) (now (lasts .exit)) (now (links .exit)) ⌝ }
 {
     let used = wide(store[2]);
-    let i = find_entry(store, k, y, n);
+    let start = entries_start(store);
+    let i = find(store, start, used, k, y, n, lasts, links);
     if i < used {
         return Placed::At(i as u32 + LEAVES);
     }
     if used < room(limits, store) {
         append(store, k, y, n);
+        put(store, start, used, lasts, links);
         return Placed::At(used as u32 + LEAVES);
     }
     Placed::Full
 }
 
 // The handle of a question's two parts: if they are the same, that part stands.
-pub fn place_parts(limits: Limits, store: &mut [u32], k: u32, y: u32, n: u32) -> Placed
-    requires { ⌜ HasEntries (now store) ⌝ }
+pub fn place_parts(
+    limits: Limits,
+    store: &mut [u32],
+    lasts: &mut Lasts,
+    links: &mut Links,
+    k: u32,
+    y: u32,
+    n: u32,
+) -> Placed
+    requires { ⌜ CanPlace limits (now store) (now lasts) (now links) ⌝ }
     ensures { λ r. ⌜ outcome r (now (store .exit)) ≡ walking.place-parts limits k y n (now (store .entry)) ⌝ }
+    ensures { λ r. ⌜ InIndex (now (store .exit)) (now (lasts .exit)) (now (links .exit)) ⌝ }
 {
     if y == n {
         return Placed::At(y);
     }
-    place_entry(limits, store, k, y, n)
+    place_entry(limits, store, lasts, links, k, y, n)
 }

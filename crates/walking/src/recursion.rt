@@ -3,7 +3,7 @@ ghost use mathlib.Core.Path.{_≡_};
 ghost use Rattle.facts.specs.Record as facts;
 ghost use Rattle.store.specs.Outcome.{outcome};
 ghost use Rattle.walking.specs.Parts.{leaf-of};
-ghost use Rattle.walking.specs.Ready.{CanWalk};
+ghost use Rattle.walking.specs.Ready.{CanWalk, InIndex};
 ghost use Rattle.walking.specs.Walk as spec;
 use crate::entries::question_at;
 use crate::placing::place_parts;
@@ -14,6 +14,8 @@ use facts::Decision;
 use facts::Facts;
 use facts::ask;
 use facts::no;
+use index::Lasts;
+use index::Links;
 use store::Limits;
 
 // The leaf of a value that is known.
@@ -31,6 +33,8 @@ fn leaf(d: Decision) -> Placed
 pub fn walk(
     limits: Limits,
     store: &mut [u32],
+    lasts: &mut Lasts,
+    links: &mut Links,
     table: &[u32],
     subject: Subject,
     f: Facts,
@@ -38,8 +42,10 @@ pub fn walk(
     left: u32,
 ) -> Placed
     requires { ⌜ CanWalk limits (now table) subject (now store) f k left ⌝ }
+    requires { ⌜ InIndex (now store) (now lasts) (now links) ⌝ }
     ensures { λ r. ⌜ outcome r (now (store .exit))
         ≡ spec.walk limits (now (table .entry)) subject left k (facts.state f) (now (store .entry)) ⌝ }
+    ensures { λ r. ⌜ InIndex (now (store .exit)) (now (lasts .exit)) (now (links .exit)) ⌝ }
 {
     let known = value(table, subject, store, f);
     if left == 0 {
@@ -52,14 +58,44 @@ pub fn walk(
     let asked = ask(f, q);
     let decision = asked.decision;
     let Decision::Open = decision else {
-        return walk(limits, store, table, subject, f, k + 1, left - 1);
+        return walk(
+            limits,
+            store,
+            lasts,
+            links,
+            table,
+            subject,
+            f,
+            k + 1,
+            left - 1,
+        );
     };
     let yes = asked.yes;
-    let Placed::At(y) = walk(limits, store, table, subject, yes, k + 1, left - 1) else {
+    let Placed::At(y) = walk(
+        limits,
+        store,
+        lasts,
+        links,
+        table,
+        subject,
+        yes,
+        k + 1,
+        left - 1,
+    ) else {
         return Placed::Full;
     };
-    let Placed::At(n) = walk(limits, store, table, subject, no(f, q), k + 1, left - 1) else {
+    let Placed::At(n) = walk(
+        limits,
+        store,
+        lasts,
+        links,
+        table,
+        subject,
+        no(f, q),
+        k + 1,
+        left - 1,
+    ) else {
         return Placed::Full;
     };
-    place_parts(limits, store, k, y, n)
+    place_parts(limits, store, lasts, links, k, y, n)
 }

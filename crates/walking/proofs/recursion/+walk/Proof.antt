@@ -4,7 +4,7 @@ use native.Mathlib.Omega.{arith}
 use borrow.Author.Needs.{needs}
 use borrow.Fn.Kinds.{In}
 use borrow.Fn.PlainCycle.{Measures, is, falls, and}
-use Rattle.walking.proofs.WalkCalls.{Asking, can-value, next-fits, can-question, can-ask, can-skip, can-yes, can-answer-no, can-no, can-place}
+use Rattle.walking.proofs.WalkCalls.{Asking, can-value, next-fits, can-question, can-ask, can-skip, can-yes, can-answer-no, can-no}
 use Rattle.walking.proofs.WalkWays.{on-last, on-known, on-skip, on-yes-full, on-no-full, on-parts}
 use Rattle.walking.proofs.recursion.walk.Reads as walk
 use Rattle.walking.proofs.recursion.walk.Kinds as walk-kinds
@@ -18,14 +18,14 @@ use Rattle.walking.proofs.valuing.value.Reads as value-reads
 use Rattle.walking.proofs.recursion.+walk.{statement}
 use Rattle.walking.proofs.recursion.+walk.Tie.{close}
 
-abbrev μ-walk : Measures 2 walk-kinds.ps ℕ
-μ-walk κs a = a .1 .1 .1 .1 .1 .1 .0
+abbrev μ-walk : Measures 4 walk-kinds.ps ℕ
+μ-walk κs a = a .1 .1 .1 .1 .1 .1 .1 .1 .0
 
-abbrev walk-at : ℕ → In 2 walk-kinds.ps
-walk-at t = and 2 walk-kinds.ps (is 2 walk-kinds.ps μ-walk t) walk.Pre
+abbrev walk-at : ℕ → In 4 walk-kinds.ps
+walk-at t = and 4 walk-kinds.ps (is 4 walk-kinds.ps μ-walk t) walk.Pre
 
-abbrev walk-below : ℕ → In 2 walk-kinds.ps
-walk-below t = and 2 walk-kinds.ps (falls 2 walk-kinds.ps _<_ μ-walk t) walk.Pre
+abbrev walk-below : ℕ → In 4 walk-kinds.ps
+walk-below t = and 4 walk-kinds.ps (falls 4 walk-kinds.ps _<_ μ-walk t) walk.Pre
 
 -- what the callees ask and give, at the measure t
 abbrev knows : ℕ → walk-lts.Claims
@@ -43,7 +43,7 @@ asking t o =
     let v = e .before .before .before in
     let w = v .before .before in
     record {
-      can = begin t o .pre .1;
+      can = begin t o .pre .1 .0;
       value = w .before .value .result;
       value-is = w .before .value .ensures;
       value-open = v .enum-told .given .1;
@@ -63,7 +63,7 @@ walk-same-length : (t : ℕ) → walk-lts.Need-same-length (knows t) (walk-at t)
 walk-same-length t c = search needs
 
 walk-returns : (t : ℕ) → walk-lts.Need-returns (knows t) (walk-at t) walk.Post
-walk-returns t c = search (needs, on-last)
+walk-returns t c = (search (needs, on-last), search needs)
 
 walk-enum-told : (t : ℕ) → walk-lts.Need-enum-told (knows t) (walk-at t) walk.Post
 walk-enum-told t c = search needs
@@ -75,7 +75,7 @@ walk-same-length-2 : (t : ℕ) → walk-lts.Need-same-length-2 (knows t) (walk-a
 walk-same-length-2 t c = search needs
 
 walk-returns-2 : (t : ℕ) → walk-lts.Need-returns-2 (knows t) (walk-at t) walk.Post
-walk-returns-2 t c = search (needs, on-known)
+walk-returns-2 t c = (search (needs, on-known), search needs)
 
 walk-question-at-requires : (t : ℕ) → walk-lts.Need-question-at-requires (knows t) (walk-at t) walk.Post
 walk-question-at-requires t c κs = search (needs, can-question)
@@ -87,30 +87,41 @@ walk-enum-told-2 : (t : ℕ) → walk-lts.Need-enum-told-2 (knows t) (walk-at t)
 walk-enum-told-2 t c = search needs
 
 walk-add-walk : (t : ℕ) → walk-lts.Need-add-walk (knows t) (walk-at t) walk.Post
-walk-add-walk t c = record { fits = next-fits (c .before .before .before .before .before .before .before .before .before .before .before .before .pre .1) }
+walk-add-walk t c = record { fits = next-fits (c .before .before .before .before .before .before .before .before .before .before .before .before .before .before .pre .1 .0) }
 
 walk-sub-walk : (t : ℕ) → walk-lts.Need-sub-walk (knows t) (walk-at t) walk.Post
 walk-sub-walk t c = search needs
 
 walk-walk-requires : (t : ℕ) → walk-lts.Need-walk-requires (knows t) (walk-at t) walk.Post
-walk-walk-requires t c κs = (omega arith, search (needs, can-skip))
+walk-walk-requires t c κs =
+    let more = c .before .before .before .before .before .before .before .before .before in
+    let can = more .before .before .before .before .before .pre in
+    (omega (arith, can .0, more .if1 .left), (can-skip (can .1 .0) (more .if1 .left), can .1 .1))
 
 walk-same-length-3 : (t : ℕ) → walk-lts.Need-same-length-3 (knows t) (walk-at t) walk.Post
 walk-same-length-3 t c = search needs
 
 walk-returns-3 : (t : ℕ) → walk-lts.Need-returns-3 (knows t) (walk-at t) walk.Post
-walk-returns-3 t c = search (needs, on-skip)
+walk-returns-3 t c =
+    let w = c .before .before in
+    let skipped = w .before .before .before .before in
+    let a = skipped .before in
+    let told = a .before .before .before in
+    let more = told .before .before in (
+      on-skip _ _ _ _ _ _ _ (more .before .value .ensures) (more .if1 .left) (told .enum-told .given .1) (a .before .question-at .ensures) (a .ask .ensures) (skipped .match2 .keys2) (w .walk .ensures .0),
+      w .walk .ensures .1,
+    )
 
 walk-add-walk-2 : (t : ℕ) → walk-lts.Need-add-walk-2 (knows t) (walk-at t) walk.Post
-walk-add-walk-2 t c = record { fits = next-fits (begin t (c .before .before) .pre .1) }
+walk-add-walk-2 t c = record { fits = next-fits (begin t (c .before .before .before .before) .pre .1 .0) }
 
 walk-sub-walk-2 : (t : ℕ) → walk-lts.Need-sub-walk-2 (knows t) (walk-at t) walk.Post
 walk-sub-walk-2 t c = search needs
 
 walk-walk-requires-2 : (t : ℕ) → walk-lts.Need-walk-requires-2 (knows t) (walk-at t) walk.Post
 walk-walk-requires-2 t c κs =
-    let o = c .before .before in
-    (omega (arith, begin t o .pre .0, asking t o .more), can-yes (asking t o))
+    let o = c .before .before .before .before in
+    (omega (arith, begin t o .pre .0, asking t o .more), (can-yes (asking t o), begin t o .pre .1 .1))
 
 walk-enum-known-y : (t : ℕ) → walk-lts.Need-enum-known-y (knows t) (walk-at t) walk.Post
 walk-enum-known-y t c = search needs
@@ -124,22 +135,22 @@ walk-same-length-4 t c = search needs
 walk-returns-4 : (t : ℕ) → walk-lts.Need-returns-4 (knows t) (walk-at t) walk.Post
 walk-returns-4 t c =
     let w₂ = c .before .before .before .before in
-    on-yes-full (asking t (w₂ .before .before .before)) (w₂ .walk2 .ensures) (c .enum-told3 .given .1)
+    (on-yes-full (asking t (w₂ .before .before .before .before .before)) (w₂ .walk2 .ensures .0) (c .enum-told3 .given .1), w₂ .walk2 .ensures .1)
 
 walk-no-requires : (t : ℕ) → walk-lts.Need-no-requires (knows t) (walk-at t) walk.Post
-walk-no-requires t c κs = can-answer-no (asking t (c .before .before .before .before .before .before .before .before .before))
+walk-no-requires t c κs = can-answer-no (asking t (c .before .before .before .before .before .before .before .before .before .before .before .before .before))
 
 walk-add-walk-3 : (t : ℕ) → walk-lts.Need-add-walk-3 (knows t) (walk-at t) walk.Post
-walk-add-walk-3 t c = record { fits = next-fits (begin t (c .before .before .before .before .before .before .before .before .before .before) .pre .1) }
+walk-add-walk-3 t c = record { fits = next-fits (begin t (c .before .before .before .before .before .before .before .before .before .before .before .before .before .before) .pre .1 .0) }
 
 walk-sub-walk-3 : (t : ℕ) → walk-lts.Need-sub-walk-3 (knows t) (walk-at t) walk.Post
-walk-sub-walk-3 t c = search needs
+walk-sub-walk-3 t c = omega (arith, asking t (c .before .before .before .before .before .before .before .before .before .before .before .before .before .before) .more)
 
 walk-walk-requires-3 : (t : ℕ) → walk-lts.Need-walk-requires-3 (knows t) (walk-at t) walk.Post
 walk-walk-requires-3 t c κs =
-    let w₂ = c .before .before .before .before .before .before .before in
-    let o = w₂ .before .before .before in
-    (omega (arith, begin t o .pre .0, asking t o .more), can-no (asking t o) (w₂ .walk2 .ensures) (c .no .ensures))
+    let w₂ = c .before .before .before .before .before .before .before .before .before in
+    let o = w₂ .before .before .before .before .before in
+    (omega (arith, begin t o .pre .0, asking t o .more), (can-no (asking t o) (w₂ .walk2 .ensures .0) (c .no .ensures), w₂ .walk2 .ensures .1))
 
 walk-enum-known-n : (t : ℕ) → walk-lts.Need-enum-known-n (knows t) (walk-at t) walk.Post
 walk-enum-known-n t c = search needs
@@ -153,15 +164,17 @@ walk-same-length-5 t c = search needs
 walk-returns-5 : (t : ℕ) → walk-lts.Need-returns-5 (knows t) (walk-at t) walk.Post
 walk-returns-5 t c =
     let w₃ = c .before .before .before .before in
-    let y = w₃ .before .before .before .before in
-    let w₂ = y .before .before .before .before in
-    on-no-full (asking t (w₂ .before .before .before)) (w₂ .walk2 .ensures) (y .y .given .1) (w₃ .before .no .result) (w₃ .before .no .ensures) (w₃ .walk3 .ensures) (c .enum-told4 .given .1)
+    let y = w₃ .before .before .before .before .before .before in
+    let w₂ = y .before .before .before .before in (
+      on-no-full (asking t (w₂ .before .before .before .before .before)) (w₂ .walk2 .ensures .0) (y .y .given .1) (w₃ .before .no .result) (w₃ .before .no .ensures) (w₃ .walk3 .ensures .0) (c .enum-told4 .given .1),
+      w₃ .walk3 .ensures .1,
+    )
 
 walk-place-parts-requires : (t : ℕ) → walk-lts.Need-place-parts-requires (knows t) (walk-at t) walk.Post
 walk-place-parts-requires t c κs =
-    let w₃ = c .before .before .before .before .before .before in
-    let w₂ = w₃ .before .before .before .before .before .before .before .before in
-    can-place (asking t (w₂ .before .before .before)) (w₂ .walk2 .ensures) (w₃ .before .no .result) (w₃ .walk3 .ensures)
+    let w₃ = c .before .before .before .before .before .before .before .before in
+    let w₂ = w₃ .before .before .before .before .before .before .before .before .before .before in
+    record { entries-few = begin t (w₂ .before .before .before .before .before) .pre .1 .0 .entries-few; index = w₃ .walk3 .ensures .1 }
 
 walk-same-length-6 : (t : ℕ) → walk-lts.Need-same-length-6 (knows t) (walk-at t) walk.Post
 walk-same-length-6 t c = search needs
@@ -169,11 +182,13 @@ walk-same-length-6 t c = search needs
 walk-returns-6 : (t : ℕ) → walk-lts.Need-returns-6 (knows t) (walk-at t) walk.Post
 walk-returns-6 t c =
     let p = c .before .before in
-    let n = p .before .before .before in
+    let n = p .before .before .before .before .before in
     let w₃ = n .before .before .before .before in
-    let y = w₃ .before .before .before .before in
-    let w₂ = y .before .before .before .before in
-    on-parts (asking t (w₂ .before .before .before)) (w₂ .walk2 .ensures) (y .y .given .1) (w₃ .before .no .result) (w₃ .before .no .ensures) (w₃ .walk3 .ensures) (n .n .given .1) (p .place-parts .ensures)
+    let y = w₃ .before .before .before .before .before .before in
+    let w₂ = y .before .before .before .before in (
+      on-parts (asking t (w₂ .before .before .before .before .before)) (w₂ .walk2 .ensures .0) (y .y .given .1) (w₃ .before .no .result) (w₃ .before .no .ensures) (w₃ .walk3 .ensures .0) (n .n .given .1) (p .place-parts .ensures .0),
+      p .place-parts .ensures .1,
+    )
 
 pub +walk-spec : {M : Type 1} → statement M
 +walk-spec = close μ-walk λ t. walk-lts.spec (knows t)
