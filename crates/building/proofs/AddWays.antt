@@ -2,6 +2,7 @@
 -- entries used, and after these there were zeros; so putting both back gives the very words.
 use Prim.Native.Nat.{ℕ, _+_, _-_, _*_, _≤_, _<_}
 use mathlib.Core.Path.{_≡_, sym, ap, subst, _∙_}
+use mathlib.Core.Bool.{Bool}
 use mathlib.Core.List.{List, _++_}
 use native.Mathlib.Omega.{arith}
 use native.Mathlib.Decide.{ℕ-discrete, decLt}
@@ -12,17 +13,20 @@ use Rattle.diagram.specs.declared.placing.Placed.the-variants.{At, Full}
 use Rattle.facts.specs.declared.record.Facts.{Facts}
 use Rattle.facts.specs.Record.{state}
 use Rattle.facts.specs.State.{start}
+use Rattle.index.specs.Entries.{Fit, differ-below}
+use Rattle.index.specs.Chains.{Loaded}
 use Rattle.operations.specs.declared.answer.Built.{Built}
 use Rattle.operations.specs.declared.answer.Built.the-variants.{Handle, NoRoom}
 use Rattle.operations.specs.Operations.{unless-full}
 use Rattle.store.specs.declared.limits.Limits.{Limits}
-use Rattle.store.specs.Layout.{question-count, used, entries-start}
+use Rattle.store.specs.Layout.{heading-length, question-count, used, entries-start}
 use Rattle.store.specs.Outcome.{Outcome, outcome}
 use Rattle.walking.specs.declared.subject.Subject.{Subject}
-use Rattle.walking.specs.Ready.{CanWalk}
+use Rattle.walking.specs.Ready.{CanWalk, InIndex}
 use Rattle.walking.specs.Walk.{walk}
-use Rattle.building.specs.Walked.{walked, restored, CanAdd}
-use Rattle.store.proofs.SoundFacts.{Sound, sound-says, used-fits}
+use Rattle.building.specs.Walked.{whole-walk, walked, restored, CanAdd}
+use Rattle.index.proofs.IndexLaws.{all-apart}
+use Rattle.store.proofs.SoundFacts.{Sound, sound-says, used-fits, used-few}
 use Rattle.store.proofs.StoreWords.{Agree, questions-agree}
 use Rattle.walking.proofs.SoundWalkable.{sound-walkable, can-begin}
 use Rattle.walking.proofs.WalkKeeps.{GoesOn, walk-goes}
@@ -88,27 +92,37 @@ module _ {limits : Limits} {table : List ℕ} {subject : Subject} {s : List ℕ}
   pub has-questions : 1 < length s
   has-questions = omega (arith, snd .list-in)
 
+  pub heading-in : heading-length ≤ length s
+  heading-in = omega (arith, snd .list-in)
+
   pub has-used : 2 < length s
   has-used = omega (arith, snd .list-in)
 
+  pub can-load : {start u : ℕ} → start ≡ entries-start s → u ≡ used s → Fit s start u
+  can-load es eu = record { begin = es; within = omega (arith, used-fits snd); few = omega (arith, used-few snd, can .fit .entries-few) }
+
   pub can-walk : (f : Facts) → state f ≡ start → CanWalk limits table subject s f 1 (question-count s)
   can-walk f e = can-begin table subject s (can .fit) (can .is-sound) (can .named) e
+
+  pub in-index : {start u : ℕ} {r : Bool} {lasts links : List ℕ} → start ≡ entries-start s → u ≡ used s → Loaded r s start u lasts links → InIndex s lasts links
+  in-index es eu x =
+      let differ = ap (differ-below s) eu ∙ all-apart s (used s) (snd .entries-differ) in
+      rw (← es, ← eu) (x .ready (x .is ∙ differ))
 
   goes : GoesOn s (walk limits table subject (question-count s) 1 start s)
   goes = walk-goes limits (can .fit .entries-few) table subject (question-count s) 1 start s
       (sound-walkable limits s (can .fit) (can .is-sound)) (omega arith) (omega arith)
 
-  module _ (f : Facts) (ef : state f ≡ start) {r : Placed} {t : List ℕ}
-      (e : outcome r t ≡ walk limits table subject (question-count s) 1 (state f) s) where
-    the-walk : outcome r t ≡ walk limits table subject (question-count s) 1 start s
-    the-walk = e ∙ ap (λ st. walk limits table subject (question-count s) 1 st s) ef
+  pub from-facts : (f : Facts) → state f ≡ start → {o : Outcome Placed} → o ≡ walk limits table subject (question-count s) 1 (state f) s → o ≡ whole-walk limits table subject s
+  from-facts f ef e = e ∙ ap (λ st. walk limits table subject (question-count s) 1 st s) ef
 
+  module _ {r : Placed} {t : List ℕ} (e : outcome r t ≡ whole-walk limits table subject s) where
     left : GoesOn s (outcome r t)
-    left = subst (GoesOn s) (sym the-walk) goes
+    left = subst (GoesOn s) (sym e) goes
 
     pub walked-at : (h : ℕ) → r ≡ At h → outcome (Handle h) t ≡ walked limits table subject s
     unfolding walked
-    walked-at h er = ap (λ a. unless-full s (outcome a t)) (sym er) ∙ ap (unless-full s) the-walk
+    walked-at h er = ap (λ a. unless-full s (outcome a t)) (sym er) ∙ ap (unless-full s) e
 
     module _ (same : length t ≡ length s) where
       pub can-restore : entries-start t + 3 * used s ≤ length t
@@ -117,4 +131,4 @@ module _ {limits : Limits} {table : List ℕ} {subject : Subject} {s : List ℕ}
       pub walked-full : r ≡ Full → {w : List ℕ} → w ≡ restored t (used s) → outcome NoRoom w ≡ walked limits table subject s
       unfolding walked
       walked-full er ew = ap (outcome NoRoom) (ew ∙ restored-same s t same (left .agrees) (used-fits snd) (snd .unused-zero))
-          ∙ ap (λ a. unless-full s (outcome a t)) (sym er) ∙ ap (unless-full s) the-walk
+          ∙ ap (λ a. unless-full s (outcome a t)) (sym er) ∙ ap (unless-full s) e

@@ -4,6 +4,7 @@ use mathlib.Core.Path.{_≡_}
 use mathlib.Core.Bool.{true}
 use mathlib.Core.List.{List, _++_}
 use lib.ListN.{length, take, set, replicate}
+use Rattle.diagram.specs.declared.placing.Placed.{Placed}
 use Rattle.facts.specs.State.{start}
 use Rattle.operations.specs.declared.answer.Built.{Built}
 use Rattle.operations.specs.Operations.{unless-full}
@@ -15,8 +16,12 @@ use Rattle.walking.specs.declared.subject.Subject.{Subject}
 use Rattle.walking.specs.Ready.{FitLimits, Named}
 use Rattle.walking.specs.Walk.{walk}
 
+-- "start with no facts. The walk asks the remaining questions in order"
+abbrev pub whole-walk : Limits → List ℕ → Subject → List ℕ → Outcome Placed
+whole-walk limits table subject s = walk limits table subject (question-count s) 1 start s
+
 unfoldable pub walked : Limits → List ℕ → Subject → List ℕ → Outcome Built
-walked limits table subject s = unless-full s (walk limits table subject (question-count s) 1 start s)
+walked limits table subject s = unless-full s (whole-walk limits table subject s)
 
 -- so many entries used again, and zeros after them
 abbrev pub restored : List ℕ → ℕ → List ℕ

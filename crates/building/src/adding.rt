@@ -8,6 +8,9 @@ ghost use Rattle.store.specs.Layout as layout;
 ghost use Rattle.store.specs.Outcome.{outcome};
 use diagram::Placed;
 use facts::no_facts;
+use index::BUCKETS;
+use index::CAPACITY;
+use index::load;
 use operations::Built;
 use store::Limits;
 use store::entries_start;
@@ -37,14 +40,36 @@ fn restore(store: &mut [u32], used: u32)
     clear_from(from, store);
 }
 
+// Walks over all questions with no facts, through an index over the entries.
+fn walk_all(limits: Limits, store: &mut [u32], table: &[u32], subject: Subject) -> Placed
+    requires { ⌜ spec.CanAdd limits (now table) subject (now store) ⌝ }
+    ensures { λ r. ⌜ outcome r (now (store .exit)) ≡ spec.whole-walk limits (now (table .entry)) subject (now (store .entry)) ⌝ }
+{
+    let mut lasts = [0u16; BUCKETS];
+    let mut links = [0u16; CAPACITY];
+    let questions = store[1];
+    let used = wide(store[2]);
+    load(store, entries_start(store), used, &mut lasts, &mut links);
+    walk(
+        limits,
+        store,
+        &mut lasts,
+        &mut links,
+        table,
+        subject,
+        no_facts(),
+        1,
+        questions,
+    )
+}
+
 // Adds the diagram of a subject, or leaves every word as it came where there is no room for it.
 pub fn add(limits: Limits, store: &mut [u32], table: &[u32], subject: Subject) -> Built
     requires { ⌜ spec.CanAdd limits (now table) subject (now store) ⌝ }
     ensures { λ r. ⌜ outcome r (now (store .exit)) ≡ spec.walked limits (now (table .entry)) subject (now (store .entry)) ⌝ }
 {
-    let questions = store[1];
     let used = store[2];
-    let placed = walk(limits, store, table, subject, no_facts(), 1, questions);
+    let placed = walk_all(limits, store, table, subject);
     match placed {
         Placed::At(h) => Built::Handle(h),
         Placed::Full => {

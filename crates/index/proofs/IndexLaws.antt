@@ -66,6 +66,14 @@ apart s {k} d i j h l e =
     let t = all-at _ i (all-at _ k d i l) j h in
     false≢true (sym (ap not (is-same (entry s j) (entry s i) e)) ∙ t)
 
+pub all-apart : (s : List ℕ) (k : ℕ) → ((j i : ℕ) → j < i → i < k → entry s j ≡ entry s i → ⊥) → differ-below s k ≡ true
+unfolding differ-below
+all-apart s k differ =
+    all-true _ k (λ i l. all-true _ i (λ j h.
+    by-test (λ t. not t ≡ true) (same-entry (entry s j) (entry s i))
+    (λ t. absurd (differ j i h l (same-is (entry s j) (entry s i) t)))
+    (λ t. refl)))
+
 only-one : (s : List ℕ) (e : Entry) {k : ℕ} → differ-below s k ≡ true → (i : ℕ) → i < k → is-entry s e i ≡ true
     → (j : ℕ) → j < i → is-entry s e j ≡ false
 unfolding is-entry

@@ -1,20 +1,14 @@
 -- `add` meets its contract: the walk's handle is the answer, and a full store is put back as it came.
 use borrow.Author.Needs.{needs}
-use Rattle.building.proofs.AddWays.{has-questions, has-used, can-walk, walked-at, can-restore, walked-full}
+use Rattle.building.proofs.AddWays.{has-used, walked-at, can-restore, walked-full}
 use Rattle.building.proofs.adding.add.Statement.{statement}
 use Rattle.building.proofs.adding.add.Tie as tie
-
-slice-read-questions : tie.Need-slice-read-questions
-slice-read-questions c = search (needs, has-questions)
 
 slice-read-used : tie.Need-slice-read-used
 slice-read-used c = search (needs, has-used)
 
-no-facts-requires : tie.Need-no-facts-requires
-no-facts-requires c κs = search needs
-
-walk-requires : tie.Need-walk-requires
-walk-requires c κs = search (needs, can-walk)
+walk-all-requires : tie.Need-walk-all-requires
+walk-all-requires c κs = search needs
 
 enum-known-placed : tie.Need-enum-known-placed
 enum-known-placed c = search needs
@@ -41,10 +35,8 @@ pub add-spec : {M : Type 1} → statement M
 add-spec =
     tie.close
     (tie.spec
-    slice-read-questions
     slice-read-used
-    no-facts-requires
-    walk-requires
+    walk-all-requires
     enum-known-placed
     enum-told
     restore-requires
