@@ -1,7 +1,7 @@
 -- A join field by field: the fields up to i are as the joined classes have them, the rest as before; after all of them the record stands for
 -- the joined state, since a field beyond the arrays is in no class that is joined.
 use Prim.Native.Nat.{ℕ, _+_, _≤_, _<_, _^_}
-use mathlib.Core.Path.{_≡_, refl, ap, _∙_, fun-ext}
+use mathlib.Core.Path.{_≡_, refl, sym, ap, _∙_, fun-ext}
 use mathlib.Core.Logic.{_≢_}
 use mathlib.Core.Bool.{false, cond}
 use native.Mathlib.Omega.{arith}
@@ -12,9 +12,8 @@ use lib.ListN.{length, getD, set, length-set}
 use lib.Seq.{getD-set-same, getD-set-other}
 use Rattle.facts.specs.declared.decision.Plan.the-variants.{Join}
 use Rattle.facts.specs.declared.record.Facts.{Facts}
-use Rattle.facts.specs.Record.{state, last-field, CanRaise, field-moved, field-joined, noes-in}
+use Rattle.facts.specs.Record.{state, last-field, CanRaise, field-moved, noes-in}
 use Rattle.facts.specs.State.{planned}
-use Rattle.terms.proofs.Cases.{by-eq}
 use Rattle.facts.proofs.Numbered.{getD-beyond}
 use Rattle.facts.proofs.RecordWays.{getD-inside}
 
@@ -64,8 +63,7 @@ module _ (g : Facts) (into from by : ℕ) where
     below : (P : ℕ → Type 0) → P i → ((k : ℕ) → k < i → P k) → (k : ℕ) → k < i + 1 → P k
     below P p q k l = elim (ℕ-discrete k i) [ yes e ↦ rw e p | no n ↦ q k (omega arith) ]
 
-    moved : getD (g .class) i i ≡ from
-        → Joining (i + 1) (field-moved f i into by)
+    moved : getD (g .class) i i ≡ from → Joining (i + 1) (field-moved f i into by)
     moved e = record {
       class-done = below (λ k. getD (set (f .class) i into) k k ≡ new-class k)
           (getD-set-same (f .class) i into i (omega (arith, j .class-size)) ∙ rw (eq-eqb (getD (g .class) i i) from e) refl)
@@ -98,8 +96,11 @@ module _ (g : Facts) (into from by : ℕ) where
       up-to = omega arith;
     }
 
-    pub joining-next : {r : Facts} → r ≡ field-joined f i into from by → Joining (i + 1) r
-    joining-next e = rw (e, here) (by-eq (λ t. Joining (i + 1) (cond t (field-moved f i into by) f)) (getD (g .class) i i) from moved stayed)
+    pub joining-moved : getD (f .class) i 0 ≡ from → {r : Facts} → r ≡ field-moved f i into by → Joining (i + 1) r
+    joining-moved e er = rw er (moved (sym here ∙ e))
+
+    pub joining-stayed : getD (f .class) i 0 ≢ from → Joining (i + 1) f
+    joining-stayed n = stayed (λ e. n (here ∙ e))
 
   pub joining-all : {i : ℕ} {f : Facts} → Joining i f → 17 ≤ i → from ≤ last-field → length (g .class) ≡ 17 → state f ≡ planned (state g) (Join into from by)
   joining-all {i} {f} j h l s = λ x. record { classes = record { class = fun-ext class x; offset = fun-ext offset x }; noes = noes x }

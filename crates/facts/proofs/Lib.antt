@@ -9,6 +9,7 @@ pub mod Numbered
 pub mod RecordWays
 pub mod Joining
 pub mod WorkedRecord
+pub mod DecideWays
 pub mod HeldFacts
 pub mod LeastWays
 pub mod Examples

@@ -14,8 +14,8 @@ use lib.Seq.{getD-set-same, getD-set-other}
 use Rattle.terms.specs.Words.{equation, word-of}
 use Rattle.terms.specs.declared.term.Equation.{Equation}
 use Rattle.facts.specs.declared.record.Facts.{Facts}
-use Rattle.facts.specs.Record.{state, last-field, most-noes, most-steps, question-at, noes-in, Small, Within, most-joined, Side, field-moved, field-joined}
-use Rattle.facts.specs.State.{left-side, right-side, settled, none-settled, free, no-to}
+use Rattle.facts.specs.Record.{state, last-field, most-noes, most-steps, question-at, noes-in, Small, Within, most-joined, Side}
+use Rattle.facts.specs.State.{Classes, left-side, right-side, settled, none-settled, no-to}
 use Rattle.terms.proofs.TermWords.{term-of-word-of}
 
 -- inside a list the default does not matter, beyond it it is the value
@@ -66,15 +66,6 @@ listed-no f q small ll lr h {x} {y} ex ey = ap (λ (qs : List Equation). record 
     noes : noes-in (set (f .left) (f .noes) x) (set (f .right) (f .noes) y) (f .noes + 1) ≡ q ∷ noes-in (f .left) (f .right) (f .noes)
     noes = rw (add-one, noes-in-set (f .left) (f .right) (f .noes) x y (f .noes) (omega arith)) (ap (λ e. e ∷ noes-in (f .left) (f .right) (f .noes)) newest)
 
--- ---- one field of a join
-module _ (f : Facts) (i into from by : ℕ) where
-  pub field-moves : getD (f .class) i 0 ≡ from
-      → field-moved f i into by ≡ field-joined f i into from by
-  field-moves e = rw (eq-eqb (getD (f .class) i 0) from e)
-
-  pub field-stays : getD (f .class) i 0 ≢ from → f ≡ field-joined f i into from by
-  field-stays n = rw (ne-eqb (getD (f .class) i 0) from n)
-
 -- ---- the questions answered no, one after the other
 module _ (f : Facts) where
   pub side-left : {k : ℕ} {q : Equation} → Within most-joined f → q ≡ question-at (f .left) (f .right) k → k < f .noes → Side f (q .left)
@@ -83,24 +74,25 @@ module _ (f : Facts) where
   pub side-right : {k : ℕ} {q : Equation} → Within most-joined f → q ≡ question-at (f .left) (f .right) k → k < f .noes → Side f (q .right)
   side-right {k} w e h = rw e (small-side-right w (w .noes-small k h))
 
-  -- the first k of them are not settled
+-- the first k of them are not settled by some classes
+module _ (f : Facts) (c : Classes) where
   pub record PassedNoes (k : ℕ) : Type 0 where
     pub up-to : k ≤ f .noes
-    pub unsettled : none-settled (state f .classes) (noes-in (f .left) (f .right) k) ≡ true
+    pub unsettled : none-settled c (noes-in (f .left) (f .right) k) ≡ true
 
   pub passed-none : PassedNoes 0
   unfolding noes-in
   passed-none = record { up-to = omega arith; unsettled = refl }
 
   pub passed-next : {k : ℕ} {q : Equation} {b : Bool} → PassedNoes k → k < f .noes → q ≡ question-at (f .left) (f .right) k
-      → b ≡ settled (state f .classes) q → b ≡ false → PassedNoes (k + 1)
+      → b ≡ settled c q → b ≡ false → PassedNoes (k + 1)
   unfolding noes-in
   passed-next {k} p h e d t =
-      let n : settled (state f .classes) (question-at (f .left) (f .right) k) ≡ false = ap (settled (state f .classes)) (sym e) ∙ sym d ∙ t in
+      let n : settled c (question-at (f .left) (f .right) k) ≡ false = ap (settled c) (sym e) ∙ sym d ∙ t in
       record { up-to = omega arith; unsettled = rw (add-one, n) (p .unsettled) }
 
-  some-settled : (k n : ℕ) → settled (state f .classes) (question-at (f .left) (f .right) k) ≡ true → k < n
-      → none-settled (state f .classes) (noes-in (f .left) (f .right) n) ≡ false
+  some-settled : (k n : ℕ) → settled c (question-at (f .left) (f .right) k) ≡ true → k < n
+      → none-settled c (noes-in (f .left) (f .right) n) ≡ false
   unfolding noes-in
   some-settled k zero t h = absurd (omega arith)
   some-settled k (suc n) t h = elim (ℕ-discrete k n) [
@@ -108,11 +100,11 @@ module _ (f : Facts) where
     | no d ↦ rw (some-settled k n t (omega arith), and-false) refl
   ]
 
-  pub settled-found : (k : ℕ) {q : Equation} {b : Bool} → k < f .noes → q ≡ question-at (f .left) (f .right) k → b ≡ settled (state f .classes) q → b ≡ true
-      → false ≡ free (state f)
-  settled-found k h e d t = sym (some-settled k (f .noes) (ap (settled (state f .classes)) (sym e) ∙ sym d ∙ t) h)
+  pub settled-found : (k : ℕ) {q : Equation} {b : Bool} → k < f .noes → q ≡ question-at (f .left) (f .right) k → b ≡ settled c q → b ≡ true
+      → false ≡ none-settled c (noes-in (f .left) (f .right) (f .noes))
+  settled-found k h e d t = sym (some-settled k (f .noes) (ap (settled c) (sym e) ∙ sym d ∙ t) h)
 
-  pub all-passed : {k : ℕ} → PassedNoes k → f .noes ≤ k → true ≡ free (state f)
+  pub all-passed : {k : ℕ} → PassedNoes k → f .noes ≤ k → true ≡ none-settled c (noes-in (f .left) (f .right) (f .noes))
   all-passed {k} p l =
       let u = p .up-to in
       let e : k ≡ f .noes = omega arith in

@@ -3,11 +3,13 @@ use Prim.Native.Nat.{ℕ, zero, suc, _+_, _≤_, _<_, _^_}
 use mathlib.Core.Path.{_≡_, refl, sym, ap, subst, _∙_}
 use mathlib.Core.Logic.{_≢_}
 use mathlib.Core.Bool.{Bool, true, false, cond, true≢false, false≢true}
-use mathlib.Core.List.{List, _∷_}
+use mathlib.Core.List.{List, [], _∷_}
 use native.Mathlib.Omega.{arith}
 use native.Mathlib.Decide.{ℕ-discrete}
 use borrow.Author.Tests.{eq-eqb}
 use lib.ListN.{length, getD}
+use denote.Enum.Declared.{tagOf}
+use types.Run.{OneOf, miss}
 use Rattle.terms.specs.declared.term.Equation.{Equation}
 use Rattle.facts.specs.declared.decision.Decision.{Decision}
 use Rattle.facts.specs.declared.decision.Decision.the-variants.{Always, Never, Open}
@@ -18,6 +20,7 @@ use Rattle.facts.specs.declared.working.Worked.{Worked}
 use Rattle.facts.specs.Record.{state, last-field, most-steps, most-offset, most-joined, question-at, noes-in, Small, Within, Ready, Side, WorkedYes, AskedOf}
 use Rattle.facts.specs.State.{State, left-side, right-side, settled, free, plan, plan-of, planned, yes-to, decide}
 use Rattle.terms.proofs.Cases.{by-eq}
+use Rattle.facts.proofs.decision.Decision.{the-type}
 use Rattle.facts.proofs.PlanCases.{plan-cases}
 use Rattle.facts.proofs.RecordWays.{small-side-left, small-side-right}
 
@@ -28,7 +31,7 @@ NoJoin Clash = Unit {0}
 NoJoin (Join into from by) = ⊥
 
 -- the classes of a join are the two that it was planned for, and what it adds is at most a side
-plan-bounded : (p t a c into from by m n : ℕ) → p ≤ m → t ≤ m → a ≤ n → c ≤ n → plan p t a c ≡ Join into from by → (into ≤ m) × (from ≤ m) × (by ≤ n)
+pub plan-bounded : (p t a c into from by m n : ℕ) → p ≤ m → t ≤ m → a ≤ n → c ≤ n → plan p t a c ≡ Join into from by → (into ≤ m) × (from ≤ m) × (by ≤ n)
 plan-bounded p t a c into from by m n hp ht ha hc =
     plan-cases (λ x. x ≡ Join into from by → (into ≤ m) × (from ≤ m) × (by ≤ n)) p t a c
     (λ _ _ e. absurd (no-join Keep tt e)) (λ _ _ e. absurd (no-join Clash tt e))
@@ -141,26 +144,27 @@ module _ (f : Facts) (q : Equation) (r : Ready f q) {p t a c : ℕ} (ep : p ≡ 
           record { free-is = h ∙ ap free same; state-is = λ _. same }
 
 -- ---- a question asked
-module _ (f : Facts) (q : Equation) where
-  pub asked-settled : {b : Bool} → b ≡ settled (state f .classes) q → b ≡ true → (g : Facts) → AskedOf f q (record { decision = Always; yes = g })
-  unfolding decide
-  asked-settled e t g = record { decision-is = rw (← e, t) refl; yes-is = λ o. absurd (true≢false (ap is-always o)) }
-    where
-      is-always : Decision → Bool
-      is-always Always = true
-      is-always Never = false
-      is-always Open = false
+-- the numbers of the cases that are not open
+abbrev known : List ℕ
+known = 0 ∷ 1 ∷ []
 
-  module _ {b : Bool} (e : b ≡ settled (state f .classes) q) (t : b ≡ false) {w : Worked} (y : WorkedYes f q w) where
-    pub asked-open : w .free ≡ true → AskedOf f q (record { decision = Open; yes = w .facts })
-    unfolding decide
-    asked-open o = record { decision-is = rw (← e, t, ← y .free-is, o) refl; yes-is = λ _. y .state-is o }
+is-open : Decision → Bool
+is-open Always = false
+is-open Never = false
+is-open Open = true
 
-    pub asked-never : w .free ≡ false → AskedOf f q (record { decision = Never; yes = w .facts })
-    unfolding decide
-    asked-never o = record { decision-is = rw (← e, t, ← y .free-is, o) refl; yes-is = λ d. absurd (true≢false (ap is-never d)) }
-      where
-        is-never : Decision → Bool
-        is-never Always = false
-        is-never Never = true
-        is-never Open = false
+open-free : (s : State) (q : Equation) → decide s q ≡ Open → free (yes-to s q) ≡ true
+unfolding decide is-open
+open-free s q = go (settled (s .classes) q) (free (yes-to s q))
+  where
+    go : (a b : Bool) → cond a Always (cond b Open Never) ≡ Open → b ≡ true
+    go true b e = absurd (false≢true (ap is-open e))
+    go false true e = refl
+    go false false e = absurd (false≢true (ap is-open e))
+
+module _ (f : Facts) (q : Equation) {d : Decision} (e : d ≡ decide (state f) q) where
+  pub asked-known : OneOf known (tagOf the-type d) → (g : Facts) → AskedOf f q (record { decision = d; yes = g })
+  asked-known h g = record { decision-is = e; yes-is = λ o. absurd (miss known 2 tt (subst (λ x. OneOf known (tagOf the-type x)) o h)) }
+
+  pub asked-open : d ≡ Open → {w : Worked} → WorkedYes f q w → AskedOf f q (record { decision = Open; yes = w .facts })
+  asked-open o y = record { decision-is = sym o ∙ e; yes-is = λ _. y .state-is (y .free-is ∙ open-free (state f) q (sym e ∙ o)) }

@@ -9,6 +9,7 @@ use Rattle.terms.specs.declared.term.Equation.{Equation}
 use Rattle.terms.specs.declared.term.Term.{Term}
 use Rattle.terms.specs.Words.{equation, term-of}
 use Rattle.facts.specs.declared.decision.Decision.the-variants.{Open}
+use Rattle.facts.specs.declared.deciding.Place.{Place}
 use Rattle.facts.specs.declared.record.Facts.{Facts}
 use Rattle.facts.specs.declared.working.Asked.{Asked}
 use Rattle.facts.specs.declared.working.Worked.{Worked}
@@ -99,10 +100,23 @@ pub record CanRaise (f : Facts) (i by : ℕ) : Type 0 where
   pub in-arrays : i < suc last-field
   pub raised-fits : getD (f .offset) i 0 + by < 2 ^ 32
 
--- one field of a join: moved, if it is in the class that is joined
+-- one field of a join, moved
 abbrev pub field-moved : Facts → ℕ → ℕ → ℕ → Facts
 field-moved f i into by =
     record { class = set (f .class) i into; offset = set (f .offset) i (getD (f .offset) i 0 + by); left = f .left; right = f .right; noes = f .noes }
 
-abbrev pub field-joined : Facts → ℕ → ℕ → ℕ → ℕ → Facts
-field-joined f i into from by = cond (eqb (getD (f .class) i 0) from) (field-moved f i into by) f
+-- ---- deciding
+-- a term of the record's fields, whose side fits a word when so much is added
+pub record RaisedSide (f : Facts) (t : Term) (by : ℕ) : Type 0 where
+  pub on-field : t .field .0 ≤ last-field
+  pub sum-fits : getD (f .offset) (t .field .0) 0 + t .steps .0 + by < 2 ^ 32
+
+-- the place of a term in some classes
+pub record PlacedIn (c : Classes) (t : Term) (r : Place) : Type 0 where
+  pub class-is : r .class ≡ c .class (t .field .0)
+  pub side-is : r .side ≡ c .offset (t .field .0) + t .steps .0
+
+-- a class can be joined to another, its base no more than a side above
+pub record CanJoin (f : Facts) (by : ℕ) : Type 0 where
+  pub within : Within most-offset f
+  pub raised-little : by ≤ most-offset + most-steps

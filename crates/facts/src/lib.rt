@@ -1,9 +1,11 @@
 // The facts gathered along a path, and what they force.
+mod deciding;
 mod decision;
 mod least;
 mod record;
 mod working;
 
+pub use deciding::decision_of;
 pub use decision::Decision;
 pub use decision::Plan;
 pub use decision::plan_yes;

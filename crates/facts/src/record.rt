@@ -1,10 +1,13 @@
 // The record of the facts gathered along a path.
 ghost use mathlib.Core.Path.{_≡_};
-ghost use Prim.Native.Nat.{_≤_};
+ghost use Prim.Native.Nat.{_+_, _≤_, _<_};
 ghost use lib.ListN.{getD};
 ghost use Rattle.facts.specs.Record as spec;
 ghost use Rattle.facts.specs.State as state;
+use terms::Equation;
 use terms::Field;
+use terms::Term;
+use terms::term_of;
 
 // The fields that a record has room for, field 0 among them, and the questions answered no.
 pub const FIELDS: usize = 17;
@@ -56,4 +59,23 @@ pub fn offset_of(f: Facts, x: Field) -> u32
 {
     let i = x.0 as usize;
     f.offset[i]
+}
+
+// A term's value above the base of its field's class.
+pub fn side(f: Facts, t: Term) -> u32
+    requires { ⌜ spec.Side f t ⌝ }
+    ensures { λ r. ⌜ r ≡ spec.state f .classes .offset (t .field .0) + t .steps .0 ⌝ }
+{
+    offset_of(f, t.field) + t.steps.0
+}
+
+// The i-th question answered no.
+pub fn no_at(f: Facts, i: usize) -> Equation
+    requires { ⌜ i < spec.most-noes ⌝ }
+    ensures { λ r. ⌜ r ≡ spec.question-at (f .left) (f .right) i ⌝ }
+{
+    Equation {
+        left: term_of(f.left[i]),
+        right: term_of(f.right[i]),
+    }
 }

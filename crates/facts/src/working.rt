@@ -5,16 +5,16 @@ ghost use Prim.Native.Nat.{ℕ, _+_, _≤_, _<_, _^_};
 ghost use lib.ListN.{getD};
 ghost use Rattle.facts.specs.Record as spec;
 ghost use Rattle.facts.specs.State as state;
+use crate::deciding::decision_of;
 use crate::decision::Decision;
 use crate::decision::Plan;
 use crate::decision::plan_yes;
 use crate::record::FIELDS;
 use crate::record::Facts;
 use crate::record::class_of;
-use crate::record::offset_of;
+use crate::record::no_at;
+use crate::record::side;
 use terms::Equation;
-use terms::Term;
-use terms::term_of;
 use terms::word_of;
 
 // A record, and whether some choice of counts fits it.
@@ -29,14 +29,6 @@ pub struct Asked {
     pub yes: Facts,
 }
 
-// A term's value above the base of its field's class.
-fn side(f: Facts, t: Term) -> u32
-    requires { ⌜ spec.Side f t ⌝ }
-    ensures { λ r. ⌜ r ≡ spec.state f .classes .offset (t .field .0) + t .steps .0 ⌝ }
-{
-    offset_of(f, t.field) + t.steps.0
-}
-
 // Whether the classes alone make a question true.
 fn is_settled(f: Facts, q: Equation) -> bool
     requires { ⌜ spec.Side f (q .left) ⌝ }
@@ -49,15 +41,13 @@ fn is_settled(f: Facts, q: Equation) -> bool
     false
 }
 
-// One field of a join: if it is in the class `from`, it moves to the class `into`, its offset `by` higher.
-fn join_field(mut f: Facts, i: usize, into: u32, from: u32, by: u32) -> Facts
+// A field moves to the class `into`, its offset `by` higher.
+fn join_field(mut f: Facts, i: usize, into: u32, by: u32) -> Facts
     requires { ⌜ spec.CanRaise f i by ⌝ }
-    ensures { λ r. ⌜ r ≡ spec.field-joined f i into from by ⌝ }
+    ensures { λ r. ⌜ r ≡ spec.field-moved f i into by ⌝ }
 {
-    if f.class[i] == from {
-        f.class[i] = into;
-        f.offset[i] = f.offset[i] + by;
-    }
+    f.class[i] = into;
+    f.offset[i] = f.offset[i] + by;
     f
 }
 
@@ -69,21 +59,12 @@ fn join(mut f: Facts, into: u32, from: u32, by: u32) -> Facts
 {
     let mut i: usize = 0;
     while i < FIELDS {
-        f = join_field(f, i, into, from, by);
+        if f.class[i] == from {
+            f = join_field(f, i, into, by);
+        }
         i += 1;
     }
     f
-}
-
-// The i-th question answered no.
-fn no_at(f: Facts, i: usize) -> Equation
-    requires { ⌜ i < spec.most-noes ⌝ }
-    ensures { λ r. ⌜ r ≡ spec.question-at (f .left) (f .right) i ⌝ }
-{
-    Equation {
-        left: term_of(f.left[i]),
-        right: term_of(f.right[i]),
-    }
 }
 
 // Whether no question answered no is settled.
@@ -140,27 +121,19 @@ pub fn no(mut f: Facts, q: Equation) -> Facts
     f
 }
 
-// What the facts say of a question.
+// What the facts say of a question, and the facts with it answered yes. A question that is settled or never asks for no join.
 pub fn ask(f: Facts, q: Equation) -> Asked
     requires { ⌜ spec.Ready f q ⌝ }
     ensures { λ r. ⌜ spec.AskedOf f q r ⌝ }
 {
-    if is_settled(f, q) {
-        return Asked {
-            decision: Decision::Always,
-            yes: f,
-        };
-    }
+    let decision = decision_of(f, q);
+    let Decision::Open = decision else {
+        return Asked { decision, yes: f };
+    };
     let w = yes(f, q);
     let g = w.facts;
-    if w.free {
-        return Asked {
-            decision: Decision::Open,
-            yes: g,
-        };
-    }
     Asked {
-        decision: Decision::Never,
+        decision: Decision::Open,
         yes: g,
     }
 }

@@ -8,9 +8,9 @@ use crate::entries::question_at;
 use crate::entries::question_of;
 use crate::entries::wide;
 use crate::entries::yes_of;
-use crate::truths::decision_of;
 use facts::Decision;
 use facts::Facts;
+use facts::decision_of;
 
 // The handles of the leaves never and always come before those of the entries.
 pub const LEAVES: u32 = 2;

@@ -11,10 +11,10 @@ ghost use Rattle.walking.specs.Value as spec;
 use crate::entries::wide;
 use crate::truths::and_value;
 use crate::truths::choose_value;
-use crate::truths::decision_of;
 use crate::truths::not_value;
 use facts::Decision;
 use facts::Facts;
+use facts::decision_of;
 use terms::Equation;
 use terms::term_of;
 

@@ -1,21 +1,7 @@
 // Truth tables with a third value, for what the facts leave open.
 ghost use mathlib.Core.Path.{_≡_};
-ghost use Rattle.facts.specs.Record as facts;
-ghost use Rattle.facts.specs.State.{decide};
 ghost use Rattle.walking.specs.Value as spec;
 use facts::Decision;
-use facts::Facts;
-use facts::ask;
-use terms::Equation;
-
-// What the facts say of a question.
-pub fn decision_of(f: Facts, q: Equation) -> Decision
-    requires { ⌜ facts.Ready f q ⌝ }
-    ensures { λ r. ⌜ r ≡ decide (facts.state f) q ⌝ }
-{
-    let asked = ask(f, q);
-    asked.decision
-}
 
 // Not a.
 pub fn not_value(a: Decision) -> Decision

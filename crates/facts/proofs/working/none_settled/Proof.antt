@@ -4,11 +4,12 @@ use native.Mathlib.Omega.{arith}
 use borrow.Author.Needs.{needs}
 use Rattle.facts.proofs.RecordWays.{PassedNoes, passed-none, passed-next, all-passed}
 use Rattle.facts.proofs.RecordWays.{side-left, side-right, settled-found}
+use Rattle.facts.specs.Record.{state}
 use Rattle.facts.proofs.working.none_settled.Statement.{statement}
 use Rattle.facts.proofs.working.none_settled.Tie as tie
 
 abbrev Inv-loop : tie.InvT-loop
-Inv-loop f i₀ i = PassedNoes f i
+Inv-loop f i₀ i = PassedNoes f (state f .classes) i
 
 abbrev μ-loop : tie.MeasureT-loop
 μ-loop f i₀ i = f .noes - i

@@ -2,8 +2,8 @@
 use mathlib.Core.Path.{ap₂}
 use borrow.Author.Needs.{needs}
 use Rattle.terms.specs.Words.{equation}
-use Rattle.facts.proofs.working.no_at.Statement.{statement}
-use Rattle.facts.proofs.working.no_at.Tie as tie
+use Rattle.facts.proofs.record.no_at.Statement.{statement}
+use Rattle.facts.proofs.record.no_at.Tie as tie
 
 mul-term-of : tie.Need-mul-term-of
 mul-term-of c = search needs
