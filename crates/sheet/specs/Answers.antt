@@ -43,5 +43,5 @@ abbrev pub written-answer : Written → Answer
 written-answer w = answer (written-number w) (written-result w)
 
 -- "Simplify's result is 0 never, 1 always or 2 a question, with two words and a gap beside it": the same five numbers, as C reads them
-abbrev pub simplified : terms.Answer → Simplified
-simplified a = record { number = a .number; result = a .result; left = a .left; right = a .right; gap = a .gap }
+abbrev pub simplified-answer : terms.Answer → Simplified
+simplified-answer a = record { number = a .number; result = a .result; left = a .left; right = a .right; gap = a .gap }

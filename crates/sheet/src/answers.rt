@@ -36,8 +36,8 @@ pub struct Simplified {
 }
 
 // The answer of simplify, laid out as C reads it.
-pub fn simplified(a: terms::Answer) -> Simplified
-    ensures { λ r. ⌜ r ≡ spec.simplified a ⌝ }
+pub fn simplified_answer(a: terms::Answer) -> Simplified
+    ensures { λ r. ⌜ r ≡ spec.simplified-answer a ⌝ }
 {
     Simplified {
         number: a.number,
