@@ -154,16 +154,15 @@ static void case_9(void)
 /* 000's Example 22: if S2(1) = 2 then S(2) = 3 else if 2 = S2(3) then always else S(2) = 3. */
 static void case_10(void)
 {
-    uint32_t store[60];
+    uint32_t store[21];
     uint16_t sheet[3] = {7, 7, 7};
     answer("10 open", sheet_open(3, WORDS(2, 65, 3, 34, 67, 2), store, LENGTH(store)), 0, 0);
-    sheet_answer built =
-        sheet_build(store, LENGTH(store), WORDS(2, 65, 2, 0, 2, 34, 3, 0, 2, 2, 67, 0, 1, 0, 0, 0, 5, 2, 3, 1, 5, 0, 1, 4));
-    answer("10 build", built, 0, built.result);
-    answer("10 verdict", sheet_verdict(store, LENGTH(store), built.result), 0, 2);
-    answer("10 example", sheet_example(store, LENGTH(store), built.result, sheet, LENGTH(sheet)), 0, 0);
+    answer("10 build", sheet_build(store, LENGTH(store), WORDS(2, 65, 2, 0, 2, 34, 3, 0, 2, 2, 67, 0, 1, 0, 0, 0, 5, 2, 3, 1, 5, 0, 1, 4)), 0, 5);
+    words(store, WORDS(3, 3, 4, 2, 65, 3, 34, 67, 2, 2, 1, 0, 3, 1, 0, 2, 1, 3, 1, 2, 4));
+    answer("10 verdict", sheet_verdict(store, LENGTH(store), 5), 0, 2);
+    answer("10 example", sheet_example(store, LENGTH(store), 5, sheet, LENGTH(sheet)), 0, 0);
     counts(sheet, (const uint16_t[]){0, 0, 1}, LENGTH(sheet));
-    answer("10 read 0 0 1", sheet_read(store, LENGTH(store), built.result, sheet, LENGTH(sheet)), 0, 1);
+    answer("10 read 0 0 1", sheet_read(store, LENGTH(store), 5, sheet, LENGTH(sheet)), 0, 1);
 }
 
 /* The rule "neither" written back, in too few words and in one more than it takes. */

@@ -1,7 +1,8 @@
 /* Sighting-sheet rules as decision diagrams: the ten operations, from C.
 
-   Link libsheet.a, which `rt staticlib sheet` writes (x86-64 Linux). The library calls nothing, keeps nothing between calls and has no
-   memory of its own but the stack: all that it reads and writes are the arguments. A call may take some 200,000 bytes of stack.
+   Link libsheet.a, which `rt staticlib sheet` writes (x86-64 Linux). The library calls nothing but memcpy and memset, keeps nothing from one
+   call to the next, and has no memory of its own: it reads and writes what is lent, and its stack. A call takes less than 65,536 bytes of
+   stack; this was measured, and no proof speaks of it.
 
    A term word is steps x 32 + field. Field 0 stands for zero, the fields of a sheet are numbered from 1.
 
@@ -16,8 +17,8 @@
    A sheet is n counts of 16 bits, field 1 first.
 
    Numbers. An answer's number is 0 if the call was accepted. A call is refused in just the conditions that stand at it, and the first of them,
-   in the order in which they stand there, is the answer's number. Then the result is 0 and NOTHING IS CHANGED: every word that was lent is
-   as it was.
+   in the order in which they stand there, is the answer's number. Then the result is 0 and NOTHING IS CHANGED: when the call returns, every
+   word that was lent is as it was.
 
      11  n is above 16                                  31  the rule has no words
      12  the list's words are odd in number             32  the rule's words are no multiple of four
