@@ -1,0 +1,248 @@
+/* Goes through document 01's cases 1 to 12 by the C functions of libsheet.a, and through NULL with length 0. The expected values are the
+   paper's, written here as literals; those that it does not give were worked out by hand. Prints what each call answered, marks each
+   difference, and exits with 1 if there is one. */
+#include <inttypes.h>
+#include <stdio.h>
+#include <string.h>
+
+#include "sheet.h"
+
+#define LENGTH(words) (sizeof(words) / sizeof((words)[0]))
+#define WORDS(...) ((const uint32_t[]){__VA_ARGS__}), LENGTH(((const uint32_t[]){__VA_ARGS__}))
+
+static unsigned compared;
+static unsigned differences;
+
+static void differs(void)
+{
+    differences++;
+    printf("  <-- DIFFERS");
+}
+
+/* Number and result of a call. */
+static void answer(const char *call, sheet_answer got, uint32_t number, uint32_t result)
+{
+    compared++;
+    printf("%s: %" PRIu32 " %" PRIu32, call, got.number, got.result);
+    if (got.number != number || got.result != result) {
+        differs();
+    }
+    printf("\n");
+}
+
+/* Words that were lent to a call, as they are afterwards. */
+static void words(const uint32_t *got, const uint32_t *expected, size_t length)
+{
+    compared++;
+    printf("    words");
+    for (size_t i = 0; i < length; i++) {
+        printf(" %" PRIu32, got[i]);
+    }
+    if (memcmp(got, expected, length * sizeof(uint32_t)) != 0) {
+        differs();
+    }
+    printf("\n");
+}
+
+/* Counts that were lent to a call, as they are afterwards. */
+static void counts(const uint16_t *got, const uint16_t *expected, size_t length)
+{
+    compared++;
+    printf("    counts");
+    for (size_t i = 0; i < length; i++) {
+        printf(" %" PRIu16, got[i]);
+    }
+    if (memcmp(got, expected, length * sizeof(uint16_t)) != 0) {
+        differs();
+    }
+    printf("\n");
+}
+
+static void simplify(const char *call, uint32_t a, uint32_t b, sheet_simplified expected)
+{
+    sheet_simplified got = sheet_simplify(a, b);
+    compared++;
+    printf("%s: %" PRIu32 " %" PRIu32 " %" PRIu32 " %" PRIu32 " %" PRId32, call, got.number, got.result, got.left, got.right, got.gap);
+    if (got.number != expected.number || got.result != expected.result || got.left != expected.left || got.right != expected.right ||
+        got.gap != expected.gap) {
+        differs();
+    }
+    printf("\n");
+}
+
+/* Words that no call has written yet. */
+static void fill(uint32_t *store, size_t length)
+{
+    for (size_t i = 0; i < length; i++) {
+        store[i] = 7;
+    }
+}
+
+static void cases_1_to_4(void)
+{
+    uint32_t store[5];
+    simplify("1 simplify S3(1) = S1(2)", 97, 34, (sheet_simplified){0, 2, 2, 65, 2});
+    simplify("2 simplify S2(1) = 0", 65, 0, (sheet_simplified){0, 0, 0, 0, 0});
+    simplify("2 simplify S(1) = S2(1)", 33, 65, (sheet_simplified){0, 0, 0, 0, 0});
+    simplify("2 simplify S(1) = S(1)", 33, 33, (sheet_simplified){0, 1, 0, 0, 0});
+    simplify("3 simplify S2(1) = S2(0)", 65, 64, (sheet_simplified){0, 2, 1, 0, 0});
+    simplify("4 simplify 1 = S255(0)", 1, 8160, (sheet_simplified){0, 2, 1, 8160, 255});
+    simplify("4 simplify 1 = S256(0)", 1, 8192, (sheet_simplified){35, 0, 0, 0, 0});
+    simplify("a negative gap, S2(2) = 1", 66, 1, (sheet_simplified){0, 2, 66, 1, -2});
+    fill(store, LENGTH(store));
+    answer("4 open 1 = S256(0)", sheet_open(1, WORDS(1, 8192), store, LENGTH(store)), 14, 0);
+    words(store, WORDS(7, 7, 7, 7, 7));
+    answer("4 open 1 = S255(0)", sheet_open(1, WORDS(1, 8160), store, LENGTH(store)), 0, 0);
+    words(store, WORDS(1, 1, 0, 1, 8160));
+}
+
+/* No fields and no questions: the list, the sheet and the example have no elements, and their pointer is NULL. */
+static void case_5(void)
+{
+    uint32_t store[3] = {9, 9, 9};
+    answer("5 open 2 words", sheet_open(0, NULL, 0, store, 2), 21, 0);
+    words(store, WORDS(9, 9, 9));
+    answer("5 open 3 words", sheet_open(0, NULL, 0, store, LENGTH(store)), 0, 0);
+    words(store, WORDS(0, 0, 0));
+    answer("5 build always", sheet_build(store, LENGTH(store), WORDS(1, 0, 0, 0)), 0, 1);
+    answer("5 example", sheet_example(store, LENGTH(store), 1, NULL, 0), 0, 0);
+    answer("5 read", sheet_read(store, LENGTH(store), 1, NULL, 0), 0, 1);
+    words(store, WORDS(0, 0, 0));
+}
+
+/* The handles of case 6's store put together again; there is no handle 6, and no room for the negation of 5. */
+static void on_case_6(uint32_t *store, size_t length)
+{
+    answer("6 join 5 and 5", sheet_join(store, length, 5, 5), 0, 5);
+    answer("6 join 5 and 2", sheet_join(store, length, 5, 2), 51, 0);
+    answer("6 choose 5, 1, 0", sheet_choose(store, length, 5, 1, 0), 0, 5);
+    answer("6 choose 1, 5, 6", sheet_choose(store, length, 1, 5, 6), 41, 0);
+    answer("6 choose 0, 5, 2", sheet_choose(store, length, 0, 5, 2), 0, 2);
+    answer("6 negate 1", sheet_negate(store, length, 1), 0, 0);
+    answer("6 negate 5", sheet_negate(store, length, 5), 51, 0);
+    words(store, WORDS(3, 3, 4, 2, 1, 3, 1, 3, 2, 2, 1, 0, 3, 1, 0, 2, 0, 3, 1, 2, 4));
+}
+
+static void cases_6_to_8(void)
+{
+    uint32_t store[21];
+    fill(store, LENGTH(store));
+    answer("6 open 18 words", sheet_open(3, WORDS(2, 1, 3, 1, 3, 2), store, 18), 0, 0);
+    answer("6 build 3 = 2 in 18 words", sheet_build(store, 18, WORDS(2, 3, 2, 0)), 51, 0);
+    words(store, WORDS(3, 3, 0, 2, 1, 3, 1, 3, 2, 0, 0, 0, 0, 0, 0, 0, 0, 0, 7, 7, 7));
+    answer("6 open 21 words", sheet_open(3, WORDS(2, 1, 3, 1, 3, 2), store, LENGTH(store)), 0, 0);
+    answer("6 build 3 = 2", sheet_build(store, LENGTH(store), WORDS(2, 3, 2, 0)), 0, 5);
+    words(store, WORDS(3, 3, 4, 2, 1, 3, 1, 3, 2, 2, 1, 0, 3, 1, 0, 2, 0, 3, 1, 2, 4));
+    answer("7 build 3 = 1", sheet_build(store, LENGTH(store), WORDS(2, 3, 1, 0)), 0, 2);
+    words(store, WORDS(3, 3, 4, 2, 1, 3, 1, 3, 2, 2, 1, 0, 3, 1, 0, 2, 0, 3, 1, 2, 4));
+    answer("8 build 2 = 1 and 3 = 2 and not 3 = 1",
+           sheet_build(store, LENGTH(store), WORDS(2, 2, 1, 0, 2, 3, 2, 0, 4, 0, 1, 0, 2, 3, 1, 0, 3, 3, 0, 0, 4, 2, 4, 0)), 0, 0);
+    words(store, WORDS(3, 3, 4, 2, 1, 3, 1, 3, 2, 2, 1, 0, 3, 1, 0, 2, 0, 3, 1, 2, 4));
+    on_case_6(store, LENGTH(store));
+}
+
+static void case_9(void)
+{
+    uint32_t store[12];
+    answer("9 open", sheet_open(3, WORDS(34, 1, 3, 33, 3, 66), store, LENGTH(store)), 0, 0);
+    answer("9 build", sheet_build(store, LENGTH(store), WORDS(2, 1, 34, 0, 3, 0, 0, 0, 2, 3, 33, 0, 4, 1, 2, 0, 2, 3, 66, 0, 4, 3, 4, 0)),
+           0, 0);
+    words(store, WORDS(3, 3, 0, 34, 1, 3, 33, 3, 66, 0, 0, 0));
+    answer("9 verdict 0", sheet_verdict(store, LENGTH(store), 0), 0, 0);
+}
+
+/* 000's Example 22: if S2(1) = 2 then S(2) = 3 else if 2 = S2(3) then always else S(2) = 3. */
+static void case_10(void)
+{
+    uint32_t store[21];
+    uint16_t sheet[3] = {7, 7, 7};
+    answer("10 open", sheet_open(3, WORDS(2, 65, 3, 34, 67, 2), store, LENGTH(store)), 0, 0);
+    answer("10 build", sheet_build(store, LENGTH(store), WORDS(2, 65, 2, 0, 2, 34, 3, 0, 2, 2, 67, 0, 1, 0, 0, 0, 5, 2, 3, 1, 5, 0, 1, 4)), 0, 5);
+    words(store, WORDS(3, 3, 4, 2, 65, 3, 34, 67, 2, 2, 1, 0, 3, 1, 0, 2, 1, 3, 1, 2, 4));
+    answer("10 verdict", sheet_verdict(store, LENGTH(store), 5), 0, 2);
+    answer("10 example", sheet_example(store, LENGTH(store), 5, sheet, LENGTH(sheet)), 0, 0);
+    counts(sheet, (const uint16_t[]){0, 0, 1}, LENGTH(sheet));
+    answer("10 read 0 0 1", sheet_read(store, LENGTH(store), 5, sheet, LENGTH(sheet)), 0, 1);
+}
+
+/* The rule "neither" written back, in too few words and in one more than it takes. */
+static void written_back(const uint32_t *store, size_t length)
+{
+    uint32_t rule[25];
+    fill(rule, LENGTH(rule));
+    answer("11 write back in 23 words", sheet_write_back(store, length, 3, rule, 23), 23, 0);
+    words(rule, WORDS(7, 7, 7, 7, 7, 7, 7, 7, 7, 7, 7, 7, 7, 7, 7, 7, 7, 7, 7, 7, 7, 7, 7, 7, 7));
+    answer("11 write back", sheet_write_back(store, length, 3, rule, LENGTH(rule)), 0, 6);
+    words(rule, WORDS(0, 0, 0, 0, 1, 0, 0, 0, 2, 1, 32, 0, 5, 2, 0, 1, 2, 1, 0, 0, 5, 4, 0, 3, 7));
+}
+
+static void case_11(void)
+{
+    uint32_t store[16];
+    uint16_t sheet[1] = {7};
+    answer("11 open", sheet_open(1, WORDS(1, 0, 1, 32), store, LENGTH(store)), 0, 0);
+    answer("11 build neither", sheet_build(store, LENGTH(store), WORDS(2, 1, 0, 0, 3, 0, 0, 0, 2, 1, 32, 0, 3, 2, 0, 0, 4, 1, 3, 0)), 0, 3);
+    words(store, WORDS(1, 2, 2, 1, 0, 1, 32, 2, 0, 1, 1, 0, 2, 0, 0, 0));
+    answer("11 example 0", sheet_example(store, LENGTH(store), 0, sheet, LENGTH(sheet)), 52, 0);
+    counts(sheet, (const uint16_t[]){7}, LENGTH(sheet));
+    answer("11 example", sheet_example(store, LENGTH(store), 3, sheet, LENGTH(sheet)), 0, 0);
+    counts(sheet, (const uint16_t[]){2}, LENGTH(sheet));
+    answer("11 verdict", sheet_verdict(store, LENGTH(store), 3), 0, 2);
+    answer("11 read 2", sheet_read(store, LENGTH(store), 3, (const uint16_t[]){2}, 1), 0, 1);
+    answer("11 read 1", sheet_read(store, LENGTH(store), 3, (const uint16_t[]){1}, 1), 0, 0);
+    answer("11 read 65535", sheet_read(store, LENGTH(store), 3, (const uint16_t[]){65535}, 1), 0, 1);
+    answer("11 read 1 1", sheet_read(store, LENGTH(store), 3, (const uint16_t[]){1, 1}, 2), 23, 0);
+    written_back(store, LENGTH(store));
+    answer("11 negate 3", sheet_negate(store, LENGTH(store), 3), 51, 0);
+    words(store, WORDS(1, 2, 2, 1, 0, 1, 32, 2, 0, 1, 1, 0, 2, 0, 0, 0));
+}
+
+static void case_12(void)
+{
+    uint32_t store[7];
+    answer("12 open", sheet_open(2, WORDS(2, 32, 2, 97), store, LENGTH(store)), 0, 0);
+    answer("12 build", sheet_build(store, LENGTH(store), WORDS(2, 2, 32, 0, 2, 2, 97, 0, 4, 0, 1, 0)), 0, 0);
+    answer("12 verdict", sheet_verdict(store, LENGTH(store), 0), 0, 0);
+    words(store, WORDS(2, 2, 0, 2, 32, 2, 97));
+}
+
+/* No words at all, by NULL: no store is so short. */
+static void null_stores(void)
+{
+    answer("null open", sheet_open(0, NULL, 0, NULL, 0), 21, 0);
+    answer("null build", sheet_build(NULL, 0, NULL, 0), 22, 0);
+    answer("null negate", sheet_negate(NULL, 0, 0), 22, 0);
+    answer("null join", sheet_join(NULL, 0, 0, 1), 22, 0);
+    answer("null choose", sheet_choose(NULL, 0, 0, 1, 2), 22, 0);
+    answer("null verdict", sheet_verdict(NULL, 0, 0), 22, 0);
+    answer("null example", sheet_example(NULL, 0, 0, NULL, 0), 22, 0);
+    answer("null read", sheet_read(NULL, 0, 0, NULL, 0), 22, 0);
+    answer("null write back", sheet_write_back(NULL, 0, 0, NULL, 0), 22, 0);
+}
+
+/* No words by NULL beside a store that is sound. */
+static void null_slices(void)
+{
+    uint32_t store[5];
+    answer("null list", sheet_open(1, NULL, 0, store, LENGTH(store)), 0, 0);
+    answer("null rule", sheet_build(store, LENGTH(store), NULL, 0), 31, 0);
+    answer("null example of one field", sheet_example(store, LENGTH(store), 1, NULL, 0), 23, 0);
+    answer("null sheet of one field", sheet_read(store, LENGTH(store), 1, NULL, 0), 23, 0);
+    answer("null rule written back", sheet_write_back(store, LENGTH(store), 0, NULL, 0), 23, 0);
+    words(store, WORDS(1, 0, 0, 0, 0));
+}
+
+int main(void)
+{
+    cases_1_to_4();
+    case_5();
+    cases_6_to_8();
+    case_9();
+    case_10();
+    case_11();
+    case_12();
+    null_stores();
+    null_slices();
+    printf("%u compared, %u differences\n", compared, differences);
+    return differences != 0;
+}

@@ -1,0 +1,47 @@
+-- "An answer is a number and a result. Number 0 is success." Which number and result each operation's answer has.
+use Prim.Native.Nat.{ℕ}
+use Rattle.examples.specs.declared.giving.Example.{Example}
+use Rattle.examples.specs.Example.{example-number}
+use Rattle.operations.specs.declared.answer.Built.{Built}
+use Rattle.operations.specs.Answer.{built-number, built-result}
+use Rattle.sheet.specs.declared.answers.Answer.{Answer}
+use Rattle.sheet.specs.declared.answers.Simplified.{Simplified}
+use Rattle.sheets.specs.declared.answer.Read.{Read}
+use Rattle.sheets.specs.Read.{read-number, read-result}
+use Rattle.store.specs.declared.opening.Opened.{Opened}
+use Rattle.store.specs.Open.{open-number}
+use Rattle.tables.specs.declared.answer.Written.{Written}
+use Rattle.tables.specs.WriteBack.{written-number, written-result}
+use Rattle.terms.specs.declared.simplification.Answer as terms
+use Rattle.verdicts.specs.declared.deciding.Verdict.{Verdict}
+use Rattle.verdicts.specs.Verdict.{verdict-number, verdict-result}
+
+abbrev pub answer : ℕ → ℕ → Answer
+answer number result = record { number = number; result = result }
+
+-- "Open and example give result 0 on success"
+abbrev pub opened-answer : Opened → Answer
+opened-answer o = answer (open-number o) 0
+
+abbrev pub example-answer : Example → Answer
+example-answer e = answer (example-number e) 0
+
+-- "The result of these and of build is the diagram's handle."
+abbrev pub built-answer : Built → Answer
+built-answer b = answer (built-number b) (built-result b)
+
+-- "0 never, 1 always, 2 sometimes"
+abbrev pub verdict-answer : Verdict → Answer
+verdict-answer v = answer (verdict-number v) (verdict-result v)
+
+-- "1 if it satisfies the handle, else 0"
+abbrev pub read-answer : Read → Answer
+read-answer r = answer (read-number r) (read-result r)
+
+-- "The answer is the row count"
+abbrev pub written-answer : Written → Answer
+written-answer w = answer (written-number w) (written-result w)
+
+-- "Simplify's result is 0 never, 1 always or 2 a question, with two words and a gap beside it": the same five numbers, as C reads them
+abbrev pub simplified-answer : terms.Answer → Simplified
+simplified-answer a = record { number = a .number; result = a .result; left = a .left; right = a .right; gap = a .gap }

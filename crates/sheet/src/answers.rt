@@ -1,0 +1,109 @@
+// Answers in document 01's numbers, laid out as C reads them.
+ghost use mathlib.Core.Path.{_≡_};
+ghost use Rattle.sheet.specs.Answers as spec;
+use building::built_number;
+use building::built_result;
+use examples::Example;
+use examples::example_number;
+use operations::Built;
+use sheets::Read;
+use sheets::read_number;
+use sheets::read_result;
+use store::Opened;
+use store::open_number;
+use tables::Written;
+use tables::written_number;
+use tables::written_result;
+use verdicts::Verdict;
+use verdicts::verdict_number;
+use verdicts::verdict_result;
+
+// A number and a result.
+#[repr(C)]
+pub struct Answer {
+    pub number: u32,
+    pub result: u32,
+}
+
+// The answer of simplify: beside number and result a question's two term words and its gap.
+#[repr(C)]
+pub struct Simplified {
+    pub number: u32,
+    pub result: u32,
+    pub left: u32,
+    pub right: u32,
+    pub gap: i32,
+}
+
+// The answer of simplify, laid out as C reads it.
+pub fn simplified_answer(a: terms::Answer) -> Simplified
+    ensures { λ r. ⌜ r ≡ spec.simplified-answer a ⌝ }
+{
+    Simplified {
+        number: a.number,
+        result: a.result,
+        left: a.left,
+        right: a.right,
+        gap: a.gap,
+    }
+}
+
+// The answer of open, which names no result.
+pub fn opened_answer(o: Opened) -> Answer
+    ensures { λ r. ⌜ r ≡ spec.opened-answer o ⌝ }
+{
+    Answer {
+        number: open_number(o),
+        result: 0,
+    }
+}
+
+// The answer of build, negate, join and choose.
+pub fn built_answer(b: Built) -> Answer
+    ensures { λ r. ⌜ r ≡ spec.built-answer b ⌝ }
+{
+    Answer {
+        number: built_number(b),
+        result: built_result(b),
+    }
+}
+
+// The answer of verdict.
+pub fn verdict_answer(v: Verdict) -> Answer
+    ensures { λ r. ⌜ r ≡ spec.verdict-answer v ⌝ }
+{
+    Answer {
+        number: verdict_number(v),
+        result: verdict_result(v),
+    }
+}
+
+// The answer of example, which names no result.
+pub fn example_answer(e: Example) -> Answer
+    ensures { λ r. ⌜ r ≡ spec.example-answer e ⌝ }
+{
+    Answer {
+        number: example_number(e),
+        result: 0,
+    }
+}
+
+// The answer of read.
+pub fn read_answer(a: Read) -> Answer
+    ensures { λ r. ⌜ r ≡ spec.read-answer a ⌝ }
+{
+    Answer {
+        number: read_number(a),
+        result: read_result(a),
+    }
+}
+
+// The answer of write back.
+pub fn written_answer(w: Written) -> Answer
+    ensures { λ r. ⌜ r ≡ spec.written-answer w ⌝ }
+{
+    Answer {
+        number: written_number(w),
+        result: written_result(w),
+    }
+}

@@ -1,0 +1,61 @@
+// The operations that may change a store, from C.
+ghost use mathlib.Core.Path.{_≡_};
+ghost use Rattle.operations.specs.Operations as operation;
+ghost use Rattle.sheet.specs.Answered.{answered};
+ghost use Rattle.sheet.specs.Answers as spec;
+ghost use Rattle.store.specs.Limits as limit;
+ghost use Rattle.store.specs.Open.{open-store};
+ghost use Rattle.store.specs.Outcome.{outcome};
+use crate::answers::Answer;
+use crate::answers::built_answer;
+use crate::answers::opened_answer;
+use building::build;
+use building::choose;
+use building::join;
+use building::negate;
+use store::open;
+
+// Opens a store for n fields and a list of questions.
+#[no_mangle]
+pub extern "C" fn sheet_open(n: u32, list: &[u32], store: &mut [u32]) -> Answer
+    ensures { λ r. ⌜ outcome r (now (store .exit))
+        ≡ answered spec.opened-answer (open-store limit.store-limits n (now (list .entry)) (now (store .entry))) ⌝ }
+{
+    opened_answer(open(n, list, store))
+}
+
+// Adds the diagram of a rule table.
+#[no_mangle]
+pub extern "C" fn sheet_build(store: &mut [u32], rule: &[u32]) -> Answer
+    ensures { λ r. ⌜ outcome r (now (store .exit))
+        ≡ answered spec.built-answer (operation.build limit.store-limits (now (rule .entry)) (now (store .entry))) ⌝ }
+{
+    built_answer(build(rule, store))
+}
+
+// Adds the diagram of not a.
+#[no_mangle]
+pub extern "C" fn sheet_negate(store: &mut [u32], a: u32) -> Answer
+    ensures { λ r. ⌜ outcome r (now (store .exit))
+        ≡ answered spec.built-answer (operation.negate limit.store-limits a (now (store .entry))) ⌝ }
+{
+    built_answer(negate(a, store))
+}
+
+// Adds the diagram of a and b.
+#[no_mangle]
+pub extern "C" fn sheet_join(store: &mut [u32], a: u32, b: u32) -> Answer
+    ensures { λ r. ⌜ outcome r (now (store .exit))
+        ≡ answered spec.built-answer (operation.join limit.store-limits a b (now (store .entry))) ⌝ }
+{
+    built_answer(join(a, b, store))
+}
+
+// Adds the diagram of if a then b else c.
+#[no_mangle]
+pub extern "C" fn sheet_choose(store: &mut [u32], a: u32, b: u32, c: u32) -> Answer
+    ensures { λ r. ⌜ outcome r (now (store .exit))
+        ≡ answered spec.built-answer (operation.choose limit.store-limits a b c (now (store .entry))) ⌝ }
+{
+    built_answer(choose(a, b, c, store))
+}

@@ -1,0 +1,19 @@
+// The operations as C functions, one for each, with the prototypes of include/sheet.h. The functions do no work of their own: each calls its
+// operation and gives its answer in document 01's numbers.
+mod answers;
+mod asking;
+mod changing;
+mod equations;
+
+pub use answers::Answer;
+pub use answers::Simplified;
+pub use asking::sheet_example;
+pub use asking::sheet_read;
+pub use asking::sheet_verdict;
+pub use asking::sheet_write_back;
+pub use changing::sheet_build;
+pub use changing::sheet_choose;
+pub use changing::sheet_join;
+pub use changing::sheet_negate;
+pub use changing::sheet_open;
+pub use equations::sheet_simplify;

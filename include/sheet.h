@@ -1,0 +1,110 @@
+/* Sighting-sheet rules as decision diagrams: the ten operations, from C.
+
+   Link libsheet.a, which `rt staticlib sheet` writes (x86-64 Linux). The library calls nothing but memcpy and memset, keeps nothing from one
+   call to the next, and has no memory of its own: it reads and writes what is lent, and its stack. A call takes less than 65,536 bytes of
+   stack; this was measured, and no proof speaks of it.
+
+   A term word is steps x 32 + field. Field 0 stands for zero, the fields of a sheet are numbered from 1.
+
+   A store is lent words: n (the number of fields), q (the number of questions), used (the number of entries), then q questions of two term
+   words each, left first, then entries of three words: question number (1 to q), yes handle, no handle. Handle 0 is never, 1 is always, and
+   the i-th entry, counted from 0, is handle i + 2.
+
+   A rule is rows of four words: kind, a, b, c. Rows count from 0; the last row is the rule. Kinds:
+     0 never; 1 always; 2 the equation of the term words a and b; 3 not row a; 4 rows a and b; 5 if row a then row b else row c.
+   References go to lower rows, and columns that a kind does not use are 0.
+
+   A sheet is n counts of 16 bits, field 1 first.
+
+   Numbers. An answer's number is 0 if the call was accepted. A call is refused in just the conditions that stand at it, and the first of them,
+   in the order in which they stand there, is the answer's number. Then the result is 0 and NOTHING IS CHANGED: when the call returns, every
+   word that was lent is as it was.
+
+     11  n is above 16                                  31  the rule has no words
+     12  the list's words are odd in number             32  the rule's words are no multiple of four
+     13  the list has more than 20 questions            33  the rule has more than 256 rows
+     14  a field is above n, or steps above 255         34  unknown kind, nonzero unused column, reference not lower
+     15  not a simplified question                      35  a field is above n, or steps above 255
+     16  not strictly above the question before         36  an equation neither always nor never nor on the list
+     21  the store is shorter than 3 + 2q words         41  a handle is at or above used + 2
+     22  the store is not sound                         51  used plus the new entries exceeds the store's room
+     23  the slice has the wrong length                 52  nothing satisfies the handle
+                                                        53  writing back would take more than 256 rows
+
+   What C must keep. The functions are proved for whatever words are lent: no content of a store, list, rule or sheet, no handle and no length
+   makes them read or write outside what was lent. Nothing proves what stands on C's side of a call, so the caller sees to it that
+     - a pointer is aligned for its type, and what lies there may be read, and written where the parameter is not const, for as many elements
+       (not bytes) as the length beside it says;
+     - what a call may write overlaps nothing else that is lent to the same call;
+     - nothing else writes what was lent, and nothing else reads what the call may write, until the call returns.
+   With the length 0 the pointer is not looked at: NULL is allowed. */
+#ifndef SHEET_H
+#define SHEET_H
+
+#include <stddef.h>
+#include <stdint.h>
+
+#ifdef __cplusplus
+extern "C" {
+#endif
+
+typedef struct {
+    uint32_t number;
+    uint32_t result;
+} sheet_answer;
+
+typedef struct {
+    uint32_t number;
+    uint32_t result;
+    uint32_t left;
+    uint32_t right;
+    int32_t gap;
+} sheet_simplified;
+
+/* Simplifies the equation of two term words. The result is 0 never, 1 always or 2 a question: then left and right are the question's term
+   words, and gap is right steps minus left steps, so that left count = right count + gap. They are 0 otherwise.
+   Refusals: 35, with n taken as 16. */
+sheet_simplified sheet_simplify(uint32_t a, uint32_t b);
+
+/* Opens a store for n fields and a list of questions, two term words each: writes n, the number of questions, no entries, the list, and
+   zeros in all the rest. The result is 0.
+   Refusals: 11, 12, 13, then question by question 14, 15, 16, then 21. */
+sheet_answer sheet_open(uint32_t n, const uint32_t *list, size_t list_len, uint32_t *store, size_t store_len);
+
+/* Adds the finished diagram of a rule. The result is its handle.
+   Refusals: 22, 31, 32, 33, then row by row 34, 35, 36, then 51. */
+sheet_answer sheet_build(uint32_t *store, size_t store_len, const uint32_t *rule, size_t rule_len);
+
+/* Adds the finished diagram of "not a". The result is its handle.
+   Refusals: 22, 41, 51. */
+sheet_answer sheet_negate(uint32_t *store, size_t store_len, uint32_t a);
+
+/* Adds the finished diagram of "a and b". The result is its handle. The two handles may be the same.
+   Refusals: 22, 41 from the first handle on, 51. */
+sheet_answer sheet_join(uint32_t *store, size_t store_len, uint32_t a, uint32_t b);
+
+/* Adds the finished diagram of "if a then b else c". The result is its handle. Handles may be the same.
+   Refusals: 22, 41 from the first handle on, 51. */
+sheet_answer sheet_choose(uint32_t *store, size_t store_len, uint32_t a, uint32_t b, uint32_t c);
+
+/* The verdict of a handle: the result is 0 if no choice of counts satisfies it, 1 if every one does, 2 if some do.
+   Refusals: 22, 41. */
+sheet_answer sheet_verdict(const uint32_t *store, size_t store_len, uint32_t a);
+
+/* Writes the least sheet that satisfies a handle, field 1 compared first. sheet_len is n. The result is 0.
+   Refusals: 22, 41, 23 (sheet_len is not n), 52. */
+sheet_answer sheet_example(const uint32_t *store, size_t store_len, uint32_t a, uint16_t *sheet, size_t sheet_len);
+
+/* Reads a sheet: the result is 1 if it satisfies the handle, else 0. sheet_len is n.
+   Refusals: 22, 41, 23 (sheet_len is not n). */
+sheet_answer sheet_read(const uint32_t *store, size_t store_len, uint32_t a, const uint16_t *sheet, size_t sheet_len);
+
+/* Writes a rule for a handle. The result is the number of its rows, four words each; the words after them are not changed.
+   Refusals: 22, 41, 53, 23 (rule_len is below four words a row). */
+sheet_answer sheet_write_back(const uint32_t *store, size_t store_len, uint32_t a, uint32_t *rule, size_t rule_len);
+
+#ifdef __cplusplus
+}
+#endif
+
+#endif
