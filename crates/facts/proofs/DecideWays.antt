@@ -1,13 +1,15 @@
 -- What deciding is on each way through the code: a plan that keeps the classes settles the question, a clash rules it out, and a join leaves
 -- it open exactly if no question answered no is settled by the joined classes.
-use Prim.Native.Nat.{ℕ, _+_, _≤_, _<_}
-use mathlib.Core.Path.{_≡_, refl, sym, ap, _∙_}
+use Prim.Native.Nat.{ℕ, suc, _+_, _≤_, _<_}
+use mathlib.Core.Path.{_≡_, refl, sym, ap, ap₂, subst, _∙_}
 use mathlib.Core.Logic.{_≢_}
 use mathlib.Core.Bool.{Bool, true, false, cond, _&&_}
+use mathlib.Core.List.{List}
 use native.Mathlib.Omega.{arith}
 use borrow.Author.Tests.{eq-eqb, ne-eqb}
 use lib.Dec.{eqb}
-use lib.ListN.{getD}
+use lib.ListN.{length, getD}
+use Rattle.terms.specs.Words.{equation, term-of}
 use Rattle.terms.specs.declared.term.Equation.{Equation}
 use Rattle.terms.specs.declared.term.Term.{Term}
 use Rattle.facts.specs.declared.deciding.Place.{Place}
@@ -15,49 +17,82 @@ use Rattle.facts.specs.declared.decision.Decision.the-variants.{Always, 
 use Rattle.facts.specs.declared.decision.Plan.{Plan}
 use Rattle.facts.specs.declared.decision.Plan.the-variants.{Keep, Clash, Join}
 use Rattle.facts.specs.declared.record.Facts.{Facts}
-use Rattle.facts.specs.Record.{state, last-field, most-steps, most-offset, question-at, Small, Ready, RaisedSide, PlacedIn, CanJoin}
-use Rattle.facts.specs.State.{Classes, left-side, right-side, settled, free, joined, plan, plan-of, planned, yes-to, decide}
+use Rattle.facts.specs.Record.{classes-in, state, last-field, most-noes, most-steps, Small, Ready, RaisedSides, Sides, PlaceJoined, CanJoin}
+use Rattle.facts.specs.State.{settled, free, joined, plan, plan-of, planned, yes-to, decide}
+use Rattle.terms.proofs.Cases.{by-eq}
 use Rattle.facts.proofs.PlanCases.{plan-cases}
-use Rattle.facts.proofs.WorkedRecord.{plan-bounded, clash-not-free}
+use Rattle.facts.proofs.WorkedRecord.{clash-not-free}
+use Rattle.facts.proofs.RecordWays.{getD-inside}
 
 -- ---- the place of a term
-module _ (c : Classes) (t : Term) (into from by : ℕ) {class side : ℕ} (ec : class ≡ c .class (t .field .0)) (es : side ≡ c .offset (t .field .0) + t .steps .0) where
-  pub place-moved : class ≡ from → PlacedIn (joined c into from by) t (record { class = into; side = side + by })
-  place-moved e = record {
-    class-is = rw (← ec, eq-eqb class from e) refl;
-    side-is = rw (← ec, eq-eqb class from e) (omega arith);
-  }
+module _ (class side into from by : ℕ) where
+  pub place-moved : class ≡ from → PlaceJoined class side into from by (record { class = into; side = side + by })
+  place-moved e = record { class-is = rw (eq-eqb class from e) refl; side-is = rw (eq-eqb class from e) refl }
 
-  pub place-stays : class ≢ from → PlacedIn (joined c into from by) t (record { class = class; side = side })
-  place-stays n = record {
-    class-is = rw (← ec, ne-eqb class from n) refl;
-    side-is = rw (← ec, ne-eqb class from n) es;
-  }
+  pub place-stays : class ≢ from → PlaceJoined class side into from by (record { class = class; side = side })
+  place-stays n = record { class-is = rw (ne-eqb class from n) refl; side-is = rw (ne-eqb class from n) refl }
 
--- ---- a question by the places of its terms
-module _ (c : Classes) (q : Equation) {l r : Place} (pl : PlacedIn c (q .left) l) (pr : PlacedIn c (q .right) r) where
-  pub places-meet : l .class ≡ r .class → eqb (l .side) (r .side) ≡ settled c q
-  places-meet e = rw (← pl .class-is, ← pr .class-is, ← pl .side-is, ← pr .side-is, eq-eqb (l .class) (r .class) e)
+module _ (l r : Place) where
+  pub places-meet : l .class ≡ r .class → eqb (l .side) (r .side) ≡ (eqb (l .class) (r .class) && eqb (l .side) (r .side))
+  places-meet e = rw (eq-eqb (l .class) (r .class) e) refl
 
-  pub places-apart : l .class ≢ r .class → false ≡ settled c q
-  places-apart n = rw (← pl .class-is, ← pr .class-is, ne-eqb (l .class) (r .class) n)
+  pub places-apart : l .class ≢ r .class → false ≡ (eqb (l .class) (r .class) && eqb (l .side) (r .side))
+  places-apart n = rw (ne-eqb (l .class) (r .class) n) refl
+
+-- ---- a question by the arrays
+module _ (class offset : List ℕ) where
+  class-read : length class ≡ suc last-field → {k : ℕ} → k ≤ last-field → getD class k 0 ≡ getD class k k
+  class-read size {k} h = getD-inside class k 0 k (omega arith)
+
+  pub plan-read : (q : Equation) → Sides class offset q → {r : Plan}
+      → r ≡ plan (getD class (q .left .field .0) 0) (getD class (q .right .field .0) 0) (getD offset (q .left .field .0) 0 + q .left .steps .0) (getD offset (q .right .field .0) 0 + q .right .steps .0)
+      → r ≡ plan-of (classes-in class offset) q
+  plan-read q s e = e ∙ rw (class-read (s .whole) (s .left-in), class-read (s .whole) (s .right-in)) refl
+
+  module _ (q : Equation) (into from by : ℕ) (s : RaisedSides class offset q by) where
+    -- a term's place is its class and side in the joined classes
+    place-class : {k : ℕ} (steps : ℕ) {p : Place} → k ≤ last-field → PlaceJoined (getD class k 0) (getD offset k 0 + steps) into from by p
+        → p .class ≡ joined (classes-in class offset) into from by .class k
+    place-class steps h p = p .class-is ∙ rw (class-read (s .whole) h) refl
+
+    place-side : {k : ℕ} (steps : ℕ) {p : Place} → k ≤ last-field → PlaceJoined (getD class k 0) (getD offset k 0 + steps) into from by p
+        → p .side ≡ joined (classes-in class offset) into from by .offset k + steps
+    place-side {k} steps h p = p .side-is ∙ rw (class-read (s .whole) h)
+        (by-eq (λ b. cond b (getD offset k 0 + steps + by) (getD offset k 0 + steps) ≡ cond b (getD offset k 0 + by) (getD offset k 0) + steps) (getD class k k) from
+        (λ _. omega arith) (λ _. refl))
+
+    pub settles-read : {l r : Place} {b : Bool}
+        → PlaceJoined (getD class (q .left .field .0) 0) (getD offset (q .left .field .0) 0 + q .left .steps .0) into from by l
+        → PlaceJoined (getD class (q .right .field .0) 0) (getD offset (q .right .field .0) 0 + q .right .steps .0) into from by r
+        → b ≡ (eqb (l .class) (r .class) && eqb (l .side) (r .side)) → b ≡ settled (joined (classes-in class offset) into from by) q
+    settles-read pl pr e = e
+        ∙ ap₂ _&&_ (ap₂ eqb (place-class (q .left .steps .0) (s .left-in) pl) (place-class (q .right .steps .0) (s .right-in) pr))
+        (ap₂ eqb (place-side (q .left .steps .0) (s .left-in) pl) (place-side (q .right .steps .0) (s .right-in) pr))
 
 -- ---- the questions answered no
-module _ {f : Facts} {by : ℕ} (can : CanJoin f by) {k : ℕ} (h : k < f .noes) {q : Equation} (e : q ≡ question-at (f .left) (f .right) k) where
-  small : Small most-steps q
-  small = rw e (can .within .noes-small k h)
+pub ready-sides : {f : Facts} {q : Equation} → length (f .class) ≡ 17 → Ready f q → Sides (f .class) (f .offset) q
+ready-sides {f} {q} size r = record {
+  whole = size;
+  left-in = r .small .left-in;
+  right-in = r .small .right-in;
+  left-fits = omega (arith, r .within .offset-in (q .left .field .0) (r .small .left-in), r .small .left-steps);
+  right-fits = omega (arith, r .within .offset-in (q .right .field .0) (r .small .right-in), r .small .right-steps);
+}
 
-  pub raised-left : RaisedSide f (q .left) by
-  raised-left = record {
-    on-field = small .left-in;
-    sum-fits = omega (arith, can .within .offset-in (q .left .field .0) (small .left-in), small .left-steps, can .raised-little);
-  }
+module _ {f : Facts} {by : ℕ} (can : CanJoin f by) {k : ℕ} (h : k < f .noes) where
+  pub listed : k < most-noes
+  listed = omega (arith, can .within .noes-few)
 
-  pub raised-right : RaisedSide f (q .right) by
-  raised-right = record {
-    on-field = small .right-in;
-    sum-fits = omega (arith, can .within .offset-in (q .right .field .0) (small .right-in), small .right-steps, can .raised-little);
-  }
+  pub raised-sides : length (f .class) ≡ 17 → {l r : Term} → l ≡ term-of (getD (f .left) k 0) → r ≡ term-of (getD (f .right) k 0) → RaisedSides (f .class) (f .offset) (equation l r) by
+  raised-sides size {l} {r} el er =
+      let s : Small most-steps (equation l r) = subst (Small most-steps) (sym (ap₂ equation el er)) (can .within .noes-small k h) in
+      record {
+        whole = size;
+        left-in = s .left-in;
+        right-in = s .right-in;
+        left-fits = omega (arith, can .within .offset-in (l .field .0) (s .left-in), s .left-steps, can .raised-little);
+        right-fits = omega (arith, can .within .offset-in (r .field .0) (s .right-in), s .right-steps, can .raised-little);
+      }
 
 -- ---- the plan
 is-keep : Plan → Bool
@@ -74,16 +109,12 @@ keeps-settled p t a c =
     (λ n _ _. rw (ne-eqb p t n) refl) (λ n _ _. rw (ne-eqb p t n) refl) (λ n _ _. rw (ne-eqb p t n) refl)
     (λ n _ _. rw (ne-eqb p t n) refl) (λ n _ _. rw (ne-eqb p t n) refl)
 
-module _ (f : Facts) (q : Equation) {p t a c : ℕ} (ep : p ≡ state f .classes .class (q .left .field .0)) (et : t ≡ state f .classes .class (q .right .field .0))
-    (ea : a ≡ left-side (state f .classes) q) (ec : c ≡ right-side (state f .classes) q) {x : Plan} (ex : x ≡ plan p t a c) where
+module _ (f : Facts) (q : Equation) {x : Plan} (ex : x ≡ plan-of (state f .classes) q) where
   settled-is : settled (state f .classes) q ≡ is-keep x
-  settled-is = rw (← ep, ← et, ← ea, ← ec) (sym (ap is-keep ex ∙ keeps-settled p t a c))
-
-  plan-is : plan-of (state f .classes) q ≡ x
-  plan-is = cc
+  settled-is = sym (ap is-keep ex ∙ keeps-settled _ _ _ _)
 
   free-is : free (yes-to (state f) q) ≡ free (planned (state f) x)
-  free-is = ap (λ y. free (planned (state f) y)) plan-is
+  free-is = ap (λ y. free (planned (state f) y)) (sym ex)
 
   pub decides-keep : x ≡ Keep → Always ≡ decide (state f) q
   unfolding decide is-keep
@@ -93,24 +124,11 @@ module _ (f : Facts) (q : Equation) {p t a c : ℕ} (ep : p ≡ state f .classes
   unfolding decide is-keep
   decides-clash d = rw (settled-is, free-is, d, clash-not-free (state f)) refl
 
-  module _ {into from by : ℕ} (d : x ≡ Join into from by) where
-    pub can-join : Ready f q → CanJoin f by
-    can-join r =
-        let w = r .within in
-        let s = r .small in
-        record {
-          within = w;
-          raised-little = plan-bounded p t a c into from by last-field (most-offset + most-steps)
-              (omega (arith, w .class-in (q .left .field .0) (s .left-in))) (omega (arith, w .class-in (q .right .field .0) (s .right-in)))
-              (omega (arith, w .offset-in (q .left .field .0) (s .left-in), s .left-steps)) (omega (arith, w .offset-in (q .right .field .0) (s .right-in), s .right-steps))
-              (sym ex ∙ d) .2;
-        }
+  module _ {into from by : ℕ} (d : x ≡ Join into from by) {b : Bool} (eb : b ≡ free (planned (state f) (Join into from by))) where
+    pub decides-open : b ≡ true → Open ≡ decide (state f) q
+    unfolding decide is-keep
+    decides-open t = rw (settled-is, free-is, d, ← eb, t) refl
 
-    module _ {b : Bool} (eb : b ≡ free (planned (state f) (Join into from by))) where
-      pub decides-open : b ≡ true → Open ≡ decide (state f) q
-      unfolding decide is-keep
-      decides-open t = rw (settled-is, free-is, d, ← eb, t) refl
-
-      pub decides-never : b ≡ false → Never ≡ decide (state f) q
-      unfolding decide is-keep
-      decides-never t = rw (settled-is, free-is, d, ← eb, t) refl
+    pub decides-never : b ≡ false → Never ≡ decide (state f) q
+    unfolding decide is-keep
+    decides-never t = rw (settled-is, free-is, d, ← eb, t) refl

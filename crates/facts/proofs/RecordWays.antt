@@ -11,8 +11,9 @@ use borrow.Author.Tests.{eq-eqb, ne-eqb}
 use lib.Dec.{eqb}
 use lib.ListN.{length, getD, set}
 use lib.Seq.{getD-set-same, getD-set-other}
-use Rattle.terms.specs.Words.{equation, word-of}
+use Rattle.terms.specs.Words.{equation, term-of, word-of}
 use Rattle.terms.specs.declared.term.Equation.{Equation}
+use Rattle.terms.specs.declared.term.Term.{Term}
 use Rattle.facts.specs.declared.record.Facts.{Facts}
 use Rattle.facts.specs.Record.{state, last-field, most-noes, most-steps, question-at, noes-in, Small, Within, most-joined, Side}
 use Rattle.facts.specs.State.{Classes, left-side, right-side, settled, none-settled, no-to}
@@ -26,22 +27,6 @@ getD-inside (x ∷ xs) (suc k) d e h = getD-inside xs k d e (omega arith)
 
 pub read-class : (f : Facts) {k : ℕ} → length (f .class) ≡ 17 → k ≤ last-field → getD (f .class) k 0 ≡ state f .classes .class k
 read-class f {k} l h = getD-inside (f .class) k 0 k (omega arith)
-
--- ---- a question is settled
-module _ (f : Facts) (q : Equation) {a b : ℕ} (ea : a ≡ state f .classes .class (q .left .field .0)) (eb : b ≡ state f .classes .class (q .right .field .0)) where
-  pub settled-sides : a ≡ b → {l r : ℕ} → l ≡ left-side (state f .classes) q → r ≡ right-side (state f .classes) q → eqb l r ≡ settled (state f .classes) q
-  settled-sides e el er = rw (← ea, ← eb, ← el, ← er, eq-eqb a b e)
-
-  pub settled-apart : a ≢ b → false ≡ settled (state f .classes) q
-  settled-apart n = rw (← ea, ← eb, ne-eqb a b n)
-
--- ---- sides of small questions
-module _ {f : Facts} {q : Equation} (w : Within most-joined f) (s : Small most-steps q) where
-  pub small-side-left : Side f (q .left)
-  small-side-left = record { on-field = s .left-in; sum-fits = omega (arith, w .offset-in (q .left .field .0) (s .left-in), s .left-steps) }
-
-  pub small-side-right : Side f (q .right)
-  small-side-right = record { on-field = s .right-in; sum-fits = omega (arith, w .offset-in (q .right .field .0) (s .right-in), s .right-steps) }
 
 -- ---- a question answered no
 noes-in-set : (left right : List ℕ) (i x y k : ℕ) → k ≤ i → noes-in (set left i x) (set right i y) k ≡ noes-in left right k
@@ -67,13 +52,6 @@ listed-no f q small ll lr h {x} {y} ex ey = ap (λ (qs : List Equation). record 
     noes = rw (add-one, noes-in-set (f .left) (f .right) (f .noes) x y (f .noes) (omega arith)) (ap (λ e. e ∷ noes-in (f .left) (f .right) (f .noes)) newest)
 
 -- ---- the questions answered no, one after the other
-module _ (f : Facts) where
-  pub side-left : {k : ℕ} {q : Equation} → Within most-joined f → q ≡ question-at (f .left) (f .right) k → k < f .noes → Side f (q .left)
-  side-left {k} w e h = rw e (small-side-left w (w .noes-small k h))
-
-  pub side-right : {k : ℕ} {q : Equation} → Within most-joined f → q ≡ question-at (f .left) (f .right) k → k < f .noes → Side f (q .right)
-  side-right {k} w e h = rw e (small-side-right w (w .noes-small k h))
-
 -- the first k of them are not settled by some classes
 module _ (f : Facts) (c : Classes) where
   pub record PassedNoes (k : ℕ) : Type 0 where
@@ -84,13 +62,6 @@ module _ (f : Facts) (c : Classes) where
   unfolding noes-in
   passed-none = record { up-to = omega arith; unsettled = refl }
 
-  pub passed-next : {k : ℕ} {q : Equation} {b : Bool} → PassedNoes k → k < f .noes → q ≡ question-at (f .left) (f .right) k
-      → b ≡ settled c q → b ≡ false → PassedNoes (k + 1)
-  unfolding noes-in
-  passed-next {k} p h e d t =
-      let n : settled c (question-at (f .left) (f .right) k) ≡ false = ap (settled c) (sym e) ∙ sym d ∙ t in
-      record { up-to = omega arith; unsettled = rw (add-one, n) (p .unsettled) }
-
   some-settled : (k n : ℕ) → settled c (question-at (f .left) (f .right) k) ≡ true → k < n
       → none-settled c (noes-in (f .left) (f .right) n) ≡ false
   unfolding noes-in
@@ -100,9 +71,16 @@ module _ (f : Facts) (c : Classes) where
     | no d ↦ rw (some-settled k n t (omega arith), and-false) refl
   ]
 
-  pub settled-found : (k : ℕ) {q : Equation} {b : Bool} → k < f .noes → q ≡ question-at (f .left) (f .right) k → b ≡ settled c q → b ≡ true
-      → false ≡ none-settled c (noes-in (f .left) (f .right) (f .noes))
-  settled-found k h e d t = sym (some-settled k (f .noes) (ap (settled c) (sym e) ∙ sym d ∙ t) h)
+  module _ {k : ℕ} {l r : Term} (h : k < f .noes) (el : l ≡ term-of (getD (f .left) k 0)) (er : r ≡ term-of (getD (f .right) k 0)) {b : Bool} (d : b ≡ settled c (equation l r)) where
+    tested : settled c (question-at (f .left) (f .right) k) ≡ b
+    tested = ap (settled c) (sym (ap₂ equation el er)) ∙ sym d
+
+    pub passed-next : PassedNoes k → b ≡ false → PassedNoes (k + 1)
+    unfolding noes-in
+    passed-next p t = record { up-to = omega arith; unsettled = rw (add-one, tested, t) (p .unsettled) }
+
+    pub settled-found : b ≡ true → false ≡ none-settled c (noes-in (f .left) (f .right) (f .noes))
+    settled-found t = sym (some-settled k (f .noes) (tested ∙ t) h)
 
   pub all-passed : {k : ℕ} → PassedNoes k → f .noes ≤ k → true ≡ none-settled c (noes-in (f .left) (f .right) (f .noes))
   all-passed {k} p l =

@@ -4,7 +4,7 @@ use mathlib.Core.Path.{_≡_}
 use mathlib.Core.Bool.{true, cond}
 use mathlib.Core.List.{List, [], _∷_}
 use lib.Dec.{eqb}
-use lib.ListN.{getD, set}
+use lib.ListN.{length, getD, set}
 use Rattle.terms.specs.declared.term.Equation.{Equation}
 use Rattle.terms.specs.declared.term.Term.{Term}
 use Rattle.terms.specs.Words.{equation, term-of}
@@ -106,15 +106,21 @@ field-moved f i into by =
     record { class = set (f .class) i into; offset = set (f .offset) i (getD (f .offset) i 0 + by); left = f .left; right = f .right; noes = f .noes }
 
 -- ---- deciding
--- a term of the record's fields, whose side fits a word when so much is added
-pub record RaisedSide (f : Facts) (t : Term) (by : ℕ) : Type 0 where
-  pub on-field : t .field .0 ≤ last-field
-  pub sum-fits : getD (f .offset) (t .field .0) 0 + t .steps .0 + by < 2 ^ 32
+-- a class for each field; the two terms of a question are of these fields, and their sides fit a word when so much is added
+pub record RaisedSides (class offset : List ℕ) (q : Equation) (by : ℕ) : Type 0 where
+  pub whole : length class ≡ suc last-field
+  pub left-in : q .left .field .0 ≤ last-field
+  pub right-in : q .right .field .0 ≤ last-field
+  pub left-fits : getD offset (q .left .field .0) 0 + q .left .steps .0 + by < 2 ^ 32
+  pub right-fits : getD offset (q .right .field .0) 0 + q .right .steps .0 + by < 2 ^ 32
 
--- the place of a term in some classes
-pub record PlacedIn (c : Classes) (t : Term) (r : Place) : Type 0 where
-  pub class-is : r .class ≡ c .class (t .field .0)
-  pub side-is : r .side ≡ c .offset (t .field .0) + t .steps .0
+abbrev pub Sides : List ℕ → List ℕ → Equation → Type 0
+Sides class offset q = RaisedSides class offset q 0
+
+-- r is the place of a term, once the class `from` is part of the class `into`, its base `by` above
+pub record PlaceJoined (class side into from by : ℕ) (r : Place) : Type 0 where
+  pub class-is : r .class ≡ cond (eqb class from) into class
+  pub side-is : r .side ≡ cond (eqb class from) (side + by) side
 
 -- a class can be joined to another, its base no more than a side above
 pub record CanJoin (f : Facts) (by : ℕ) : Type 0 where

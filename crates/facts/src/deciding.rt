@@ -1,17 +1,17 @@
 // What the facts say of a question, without working an answer in: the questions answered no are looked at as a join would leave them.
 ghost use mathlib.Core.Path.{_≡_};
-ghost use Prim.Native.Nat.{_+_};
+ghost use mathlib.Core.Bool.{_&&_};
+ghost use Prim.Native.Nat.{_+_, _<_, _^_};
+ghost use lib.Dec.{eqb};
 ghost use Rattle.facts.specs.Record as spec;
 ghost use Rattle.facts.specs.State as state;
 use crate::decision::Decision;
 use crate::decision::Plan;
 use crate::decision::plan_yes;
 use crate::record::Facts;
-use crate::record::class_of;
-use crate::record::no_at;
-use crate::record::side;
+use crate::record::Numbers;
 use terms::Equation;
-use terms::Term;
+use terms::term_of;
 
 // The class of a term's field, and the term's value above the base of that class.
 struct Place {
@@ -20,48 +20,63 @@ struct Place {
 }
 
 // The place of a term, once the class `from` is part of the class `into`, its base `by` above.
-fn place_joined(f: Facts, t: Term, into: u32, from: u32, by: u32) -> Place
-    requires { ⌜ spec.RaisedSide f t by ⌝ }
-    ensures { λ r. ⌜ spec.PlacedIn (state.joined (spec.state f .classes) into from by) t r ⌝ }
+fn place_joined(class: u32, side: u32, into: u32, from: u32, by: u32) -> Place
+    requires { ⌜ side + by < 2 ^ 32 ⌝ }
+    ensures { λ r. ⌜ spec.PlaceJoined class side into from by r ⌝ }
 {
-    let class = class_of(f, t.field);
-    let at = side(f, t);
     if class == from {
         return Place {
             class: into,
-            side: at + by,
+            side: side + by,
         };
     }
-    Place { class, side: at }
+    Place { class, side }
 }
 
-// Whether the classes alone make a question true, once they are joined.
-fn is_settled_joined(f: Facts, q: Equation, into: u32, from: u32, by: u32) -> bool
-    requires { ⌜ spec.RaisedSide f (q .left) by ⌝ }
-    requires { ⌜ spec.RaisedSide f (q .right) by ⌝ }
-    ensures { λ r. ⌜ r ≡ state.settled (state.joined (spec.state f .classes) into from by) q ⌝ }
+// Whether two terms have one value by their classes alone.
+fn meet(l: Place, r: Place) -> bool
+    ensures { λ b. ⌜ b ≡ (eqb (l .class) (r .class) && eqb (l .side) (r .side)) ⌝ }
 {
-    let l = place_joined(f, q.left, into, from, by);
-    let r = place_joined(f, q.right, into, from, by);
     if l.class == r.class {
         return l.side == r.side;
     }
     false
 }
 
-// Whether a join settles no question answered no.
-fn join_is_free(f: Facts, into: u32, from: u32, by: u32) -> bool
-    requires { ⌜ spec.CanJoin f by ⌝ }
-    ensures { λ r. ⌜ r ≡ state.free (state.planned (spec.state f) (Plan.Join into from by)) ⌝ }
+// What an answer yes to a question asks of the classes.
+pub fn plan_in<'a>(class: &'a Numbers, offset: &'a Numbers, q: Equation) -> Plan
+    requires { ⌜ spec.Sides (now class) (now offset) q ⌝ }
+    ensures { λ r. ⌜ r ≡ state.plan-of (spec.classes-in (now (class .entry)) (now (offset .entry))) q ⌝ }
 {
-    let mut i: usize = 0;
-    while i < f.noes {
-        if is_settled_joined(f, no_at(f, i), into, from, by) {
-            return false;
-        }
-        i += 1;
-    }
-    true
+    let x = q.left.field.0 as usize;
+    let y = q.right.field.0 as usize;
+    plan_yes(
+        class[x],
+        class[y],
+        offset[x] + q.left.steps.0,
+        offset[y] + q.right.steps.0,
+    )
+}
+
+// Whether a join settles a question.
+fn join_settles<'a>(
+    class: &'a Numbers,
+    offset: &'a Numbers,
+    q: Equation,
+    into: u32,
+    from: u32,
+    by: u32,
+) -> bool
+    requires { ⌜ spec.RaisedSides (now class) (now offset) q by ⌝ }
+    ensures { λ r. ⌜ r
+        ≡ state.settled (state.joined (spec.classes-in (now (class .entry)) (now (offset .entry))) into from by) q ⌝ }
+{
+    let x = q.left.field.0 as usize;
+    let y = q.right.field.0 as usize;
+    meet(
+        place_joined(class[x], offset[x] + q.left.steps.0, into, from, by),
+        place_joined(class[y], offset[y] + q.right.steps.0, into, from, by),
+    )
 }
 
 // What the facts say of a question.
@@ -69,9 +84,7 @@ pub fn decision_of(f: Facts, q: Equation) -> Decision
     requires { ⌜ spec.Ready f q ⌝ }
     ensures { λ r. ⌜ r ≡ state.decide (spec.state f) q ⌝ }
 {
-    let p = class_of(f, q.left.field);
-    let t = class_of(f, q.right.field);
-    match plan_yes(p, t, side(f, q.left), side(f, q.right)) {
+    match plan_in(&f.class, &f.offset, q) {
         Plan::Keep => Decision::Always,
         Plan::Clash => Decision::Never,
         Plan::Join { into, from, by } => {
@@ -81,4 +94,23 @@ pub fn decision_of(f: Facts, q: Equation) -> Decision
             Decision::Never
         }
     }
+}
+
+// Whether a join settles no question answered no.
+pub fn join_is_free(f: Facts, into: u32, from: u32, by: u32) -> bool
+    requires { ⌜ spec.CanJoin f by ⌝ }
+    ensures { λ r. ⌜ r ≡ state.free (state.planned (spec.state f) (Plan.Join into from by)) ⌝ }
+{
+    let mut i: usize = 0;
+    while i < f.noes {
+        let q = Equation {
+            left: term_of(f.left[i]),
+            right: term_of(f.right[i]),
+        };
+        if join_settles(&f.class, &f.offset, q, into, from, by) {
+            return false;
+        }
+        i += 1;
+    }
+    true
 }

@@ -14,7 +14,6 @@ pub use least::Sheet;
 pub use least::least_sheet;
 pub use record::FIELDS;
 pub use record::Facts;
-pub use record::class_of;
 pub use record::no_facts;
 pub use record::offset_of;
 pub use working::Asked;

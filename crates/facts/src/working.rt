@@ -6,14 +6,12 @@ ghost use lib.ListN.{getD};
 ghost use Rattle.facts.specs.Record as spec;
 ghost use Rattle.facts.specs.State as state;
 use crate::deciding::decision_of;
+use crate::deciding::join_is_free;
+use crate::deciding::plan_in;
 use crate::decision::Decision;
 use crate::decision::Plan;
-use crate::decision::plan_yes;
 use crate::record::FIELDS;
 use crate::record::Facts;
-use crate::record::class_of;
-use crate::record::no_at;
-use crate::record::side;
 use terms::Equation;
 use terms::word_of;
 
@@ -27,18 +25,6 @@ pub struct Worked {
 pub struct Asked {
     pub decision: Decision,
     pub yes: Facts,
-}
-
-// Whether the classes alone make a question true.
-fn is_settled(f: Facts, q: Equation) -> bool
-    requires { ⌜ spec.Side f (q .left) ⌝ }
-    requires { ⌜ spec.Side f (q .right) ⌝ }
-    ensures { λ r. ⌜ r ≡ state.settled (spec.state f .classes) q ⌝ }
-{
-    if class_of(f, q.left.field) == class_of(f, q.right.field) {
-        return side(f, q.left) == side(f, q.right);
-    }
-    false
 }
 
 // A field moves to the class `into`, its offset `by` higher.
@@ -67,29 +53,12 @@ fn join(mut f: Facts, into: u32, from: u32, by: u32) -> Facts
     f
 }
 
-// Whether no question answered no is settled.
-fn none_settled(f: Facts) -> bool
-    requires { ⌜ spec.Within spec.most-joined f ⌝ }
-    ensures { λ r. ⌜ r ≡ state.free (spec.state f) ⌝ }
-{
-    let mut i: usize = 0;
-    while i < f.noes {
-        if is_settled(f, no_at(f, i)) {
-            return false;
-        }
-        i += 1;
-    }
-    true
-}
-
 // The facts with a question answered yes, if some choice of counts fits them then.
 pub fn yes(f: Facts, q: Equation) -> Worked
     requires { ⌜ spec.Ready f q ⌝ }
     ensures { λ r. ⌜ spec.WorkedYes f q r ⌝ }
 {
-    let p = class_of(f, q.left.field);
-    let t = class_of(f, q.right.field);
-    match plan_yes(p, t, side(f, q.left), side(f, q.right)) {
+    match plan_in(&f.class, &f.offset, q) {
         Plan::Keep => Worked {
             free: true,
             facts: f,
@@ -98,13 +67,10 @@ pub fn yes(f: Facts, q: Equation) -> Worked
             free: false,
             facts: f,
         },
-        Plan::Join { into, from, by } => {
-            let g = join(f, into, from, by);
-            Worked {
-                free: none_settled(g),
-                facts: g,
-            }
-        }
+        Plan::Join { into, from, by } => Worked {
+            free: join_is_free(f, into, from, by),
+            facts: join(f, into, from, by),
+        },
     }
 }
 
@@ -121,7 +87,7 @@ pub fn no(mut f: Facts, q: Equation) -> Facts
     f
 }
 
-// What the facts say of a question, and the facts with it answered yes. A question that is settled or never asks for no join.
+// What the facts say of a question and, where it is open, the facts with it answered yes.
 pub fn ask(f: Facts, q: Equation) -> Asked
     requires { ⌜ spec.Ready f q ⌝ }
     ensures { λ r. ⌜ spec.AskedOf f q r ⌝ }

@@ -1,28 +1,42 @@
 -- `join_is_free` meets its contract: the questions passed are not settled by the joined classes, and one that is settles the matter.
 use Prim.Native.Nat.{_-_}
-use native.Mathlib.Omega.{arith}
 use borrow.Author.Needs.{needs}
 use Rattle.facts.specs.Record.{state}
 use Rattle.facts.specs.State.{joined}
 use Rattle.facts.proofs.RecordWays.{PassedNoes, passed-none, passed-next, all-passed, settled-found}
-use Rattle.facts.proofs.DecideWays.{raised-left, raised-right}
+use Rattle.facts.proofs.DecideWays.{raised-sides}
 use Rattle.facts.proofs.deciding.join_is_free.Statement.{statement}
 use Rattle.facts.proofs.deciding.join_is_free.Tie as tie
 
 abbrev Inv-loop : tie.InvT-loop
-Inv-loop f into from by i₀ i = PassedNoes f (joined (state f .classes) into from by) i
+Inv-loop into from by f i₀ i = PassedNoes f (joined (state f .classes) into from by) i
 
 abbrev μ-loop : tie.MeasureT-loop
-μ-loop f into from by i₀ i = f .noes - i
+μ-loop into from by f i₀ i = f .noes - i
 
 loop-holds : tie.Need-loop-holds Inv-loop μ-loop
 loop-holds c = search (needs, passed-none)
 
-no-at-requires : tie.Need-no-at-requires Inv-loop μ-loop
-no-at-requires c κs = omega (arith, c .before .before .before .pre .within .noes-few)
+mul-term-of : tie.Need-mul-term-of Inv-loop μ-loop
+mul-term-of c = search needs
 
-is-settled-joined-requires : tie.Need-is-settled-joined-requires Inv-loop μ-loop
-is-settled-joined-requires c κs = (search (needs, raised-left), search (needs, raised-right))
+element-copy-out-term-of : tie.Need-element-copy-out-term-of Inv-loop μ-loop
+element-copy-out-term-of c = search needs
+
+term-of-requires : tie.Need-term-of-requires Inv-loop μ-loop
+term-of-requires c κs = search needs
+
+mul-term-of-2 : tie.Need-mul-term-of-2 Inv-loop μ-loop
+mul-term-of-2 c = search needs
+
+element-copy-out-term-of-2 : tie.Need-element-copy-out-term-of-2 Inv-loop μ-loop
+element-copy-out-term-of-2 c = search needs
+
+term-of-requires-2 : tie.Need-term-of-requires-2 Inv-loop μ-loop
+term-of-requires-2 c κs = search needs
+
+join-settles-requires : tie.Need-join-settles-requires Inv-loop μ-loop
+join-settles-requires c κs = search (needs, raised-sides)
 
 returns : tie.Need-returns Inv-loop μ-loop
 returns c = search (needs, settled-found)
@@ -34,7 +48,12 @@ loop-less : tie.Need-loop-less Inv-loop μ-loop
 loop-less c = search needs
 
 loop-again : tie.Need-loop-again Inv-loop μ-loop
-loop-again c = search (needs, passed-next)
+loop-again c =
+    let tested = c .before in
+    let right = tested .before .before .before .before in
+    let left = right .before .before in
+    let turn = left .before .before in
+    passed-next _ _ (turn .loop-test .taken) (left .term-of .ensures) (right .term-of2 .ensures) (tested .join-settles .ensures) (turn .before .loop .inv) (c .if1 .left)
 
 returns-2 : tie.Need-returns-2 Inv-loop μ-loop
 returns-2 c = search (needs, all-passed)
@@ -46,8 +65,13 @@ join-is-free-spec =
     Inv-loop
     μ-loop
     loop-holds
-    no-at-requires
-    is-settled-joined-requires
+    mul-term-of
+    element-copy-out-term-of
+    term-of-requires
+    mul-term-of-2
+    element-copy-out-term-of-2
+    term-of-requires-2
+    join-settles-requires
     returns
     add-i
     loop-less
