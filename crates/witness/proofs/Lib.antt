@@ -1,1 +1,2 @@
 pub mod JoinsAlike
+pub mod JoinWays
