@@ -12,3 +12,5 @@ pub mod WorkedRecord
 pub mod HeldFacts
 pub mod LeastWays
 pub mod Examples
+pub mod LentLocal
+pub mod AddOnLocal

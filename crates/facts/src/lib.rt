@@ -1,9 +1,12 @@
 // The facts gathered along a path, and what they force.
+mod adding;
 mod decision;
 mod least;
 mod record;
 mod working;
 
+pub use adding::add;
+pub use adding::no;
 pub use decision::Decision;
 pub use decision::Plan;
 pub use decision::plan_yes;
@@ -18,5 +21,4 @@ pub use record::offset_of;
 pub use working::Asked;
 pub use working::Worked;
 pub use working::ask;
-pub use working::no;
 pub use working::yes;
