@@ -13,4 +13,5 @@ pub mod HeldFacts
 pub mod LeastWays
 pub mod Examples
 pub mod LentLocal
+pub mod RecordLent
 pub mod AddOnLocal

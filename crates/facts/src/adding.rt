@@ -12,8 +12,9 @@ pub fn add(f: &mut Facts, q: Equation)
     requires { ⌜ spec.CanAdd (now f) q ⌝ }
     ensures { λ _. ⌜ spec.state (now (f .exit)) ≡ state.no-to (spec.state (now (f .entry))) q ⌝ }
 {
-    let g = with_no(*f, q);
-    *f = g;
+    let old = *f;
+    let new = with_no(old, q);
+    *f = new;
 }
 
 // The facts with a question answered no, for callers that pass records by value: a record of its own is lent.
