@@ -1,2 +1,3 @@
 pub mod JoinsAlike
 pub mod JoinWays
+pub mod BothAccepted
