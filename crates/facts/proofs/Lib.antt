@@ -13,3 +13,6 @@ pub mod DecideWays
 pub mod HeldFacts
 pub mod LeastWays
 pub mod Examples
+pub mod LentLocal
+pub mod RecordLent
+pub mod AddOnLocal

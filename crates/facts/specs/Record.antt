@@ -80,6 +80,11 @@ pub record Ready (f : Facts) (q : Equation) : Type 0 where
   pub small : Small most-steps q
   pub fitted : free (state f) ≡ true
 
+-- what adding a question answered no requires
+pub record CanAdd (f : Facts) (q : Equation) : Type 0 where
+  pub small : Small most-steps q
+  pub room : f .noes < most-noes
+
 -- what working a yes in promises: whether the state is free, and, if so, that the record has it
 pub record WorkedYes (f : Facts) (q : Equation) (r : Worked) : Type 0 where
   pub free-is : r .free ≡ free (yes-to (state f) q)

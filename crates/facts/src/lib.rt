@@ -1,10 +1,13 @@
 // The facts gathered along a path, and what they force.
+mod adding;
 mod deciding;
 mod decision;
 mod least;
 mod record;
 mod working;
 
+pub use adding::add;
+pub use adding::no;
 pub use deciding::decision_of;
 pub use decision::Decision;
 pub use decision::Plan;
@@ -19,5 +22,4 @@ pub use record::offset_of;
 pub use working::Asked;
 pub use working::Worked;
 pub use working::ask;
-pub use working::no;
 pub use working::yes;

@@ -74,10 +74,9 @@ pub fn yes(f: Facts, q: Equation) -> Worked
     }
 }
 
-// The facts with a question answered no.
-pub fn no(mut f: Facts, q: Equation) -> Facts
-    requires { ⌜ spec.Small spec.most-steps q ⌝ }
-    requires { ⌜ f .noes < spec.most-noes ⌝ }
+// The facts with a question answered no, by value: what `add` does to a record that is lent to it.
+pub fn with_no(mut f: Facts, q: Equation) -> Facts
+    requires { ⌜ spec.CanAdd f q ⌝ }
     ensures { λ r. ⌜ spec.state r ≡ state.no-to (spec.state f) q ⌝ }
 {
     let i = f.noes;

@@ -1,6 +1,6 @@
 -- "Read a sheet of n counts, each 0 to 65,535: 1 if it satisfies the handle, else 0."
 use Prim.Native.Nat.{ℕ, _+_}
-use mathlib.Core.Bool.{Bool, true, false, cond}
+use mathlib.Core.Bool.{true, false, cond}
 use mathlib.Core.List.{List}
 use lib.Dec.{eqb, ltb}
 use lib.ListN.{length}

@@ -2,7 +2,7 @@
 -- differ, and two handles with one tree are the same, since no two entries are equal.
 use Prim.Native.Nat.{ℕ, zero, suc, _+_, _-_, _≤_, _<_}
 use mathlib.Core.Path.{_≡_, sym, _∙_, ap, ap₂}
-use mathlib.Core.Logic.{_≢_, _↔_}
+use mathlib.Core.Logic.{_≢_}
 use mathlib.Core.Bool.{Bool, true, false, true≢false, false≢true, cond}
 use mathlib.Core.List.{List}
 use native.Mathlib.Omega.{arith}
@@ -121,10 +121,3 @@ module _ {limits : Limits} {s : List ℕ} (snd : Sound limits s) where
       (λ i h y n.
       let k = snd .entry-kept i h in
       rw (tree-node i h) (λ e. k .differ (same-tree (entry s i .yes-to) (entry s i .no-to) (omega (arith, k .yes-below)) (omega (arith, k .no-below)) e), y, n))
-
-  pub leaf-is-leaf : (h : ℕ) → h < used s + leaves → (h < leaves) ↔ ((b : Bool) × (tree s h ≡ leaf b))
-  leaf-is-leaf h l = (
-    λ k. (eqb h 1, tree-leaf s h k),
-    λ t. by-handle (used s) (λ g. tree s g ≡ leaf (t .0) → g < leaves)
-        (λ _ k _. k) (λ i k e. let z : _≡_ {A = ℕ} 0 1 = cc (tree-node i k) in omega arith) h l (t .1),
-  )

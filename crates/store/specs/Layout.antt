@@ -1,6 +1,6 @@
 -- The words of a store (document 01, "The store").
-use Prim.Native.Nat.{ℕ, zero, suc, _+_, _-_, _*_, _/_, _≤_, min}
-use mathlib.Core.List.{List, [], _∷_, _++_}
+use Prim.Native.Nat.{ℕ, _+_, _-_, _*_, _/_, _≤_, min}
+use mathlib.Core.List.{List}
 use lib.ListN.{length, getD, take, drop}
 use Rattle.terms.specs.declared.term.Equation.{Equation}
 use Rattle.terms.specs.Words.{equation, term-of}

@@ -1,10 +1,10 @@
 -- "A handle's meaning under a choice of counts: follow yes or no from the entry by the truth of its question, to a leaf."
 use Prim.Native.Nat.{ℕ, zero, suc, _-_}
-use mathlib.Core.Bool.{Bool, true, false, cond}
+use mathlib.Core.Bool.{Bool, cond}
 use mathlib.Core.List.{List}
 use lib.Dec.{eqb, ltb}
 use Rattle.terms.specs.Meaning.{Valuation, truth}
-use Rattle.store.specs.Layout.{question, Entry, entry, leaves}
+use Rattle.store.specs.Layout.{question, entry, leaves}
 
 -- the handle that follows a handle: a leaf stays
 unfoldable pub next : List ℕ → Valuation → ℕ → ℕ

@@ -1,13 +1,12 @@
 -- Two rules joined in both orders have one handle, by the handle law: and is alike in truth either way round.
 use Prim.Native.Nat.{ℕ}
-use mathlib.Core.Path.{_≡_, refl, sym, ap, ap₂, _∙_}
+use mathlib.Core.Path.{_≡_, refl, sym, ap₂, _∙_}
 use mathlib.Core.Bool.{Bool, true, false, _&&_}
 use mathlib.Core.List.{List, [], _∷_}
 use lib.ListN.{length}
 use Rattle.operations.specs.declared.answer.Built.{Built}
-use Rattle.operations.specs.declared.answer.Built.the-variants.{Handle}
+use Rattle.operations.specs.declared.answer.Built.the-variants.{Handle, NotSound, NoHandle, NoWords, NotRows, TooManyRows, BadRow, OutOfLimits as Outside, NotListed, NoRoom}
 use Rattle.operations.specs.Handles.{Call, build, join, answer-to, Rule, Pair, pair, first-ledger, rule-of, rule-of-call, enter, Books, after, run, In, newest, older}
-use Rattle.operations.specs.Operations as operation
 use Rattle.store.specs.declared.limits.Limits.{Limits}
 use Rattle.store.specs.declared.opening.Opened.{Opened}
 use Rattle.store.specs.declared.opening.Opened.the-variants.{Accepted, TooManyFields, OddList, TooManyQuestions, OutOfLimits, NotSimplified, NotAbove, TooShort}
@@ -15,6 +14,9 @@ use Rattle.store.specs.Open.{opening, opened, opened-words, open-store}
 use Rattle.store.specs.Outcome.{Outcome, outcome}
 use Rattle.tables.specs.Rows.{rule-meaning}
 use Rattle.terms.specs.Meaning.{Valuation}
+use Rattle.witness.specs.declared.joining.Joins.{Joins}
+use Rattle.witness.specs.declared.joining.Joins.the-variants.{Refused}
+use Rattle.witness.specs.Joined.{SameHandles, if-opened, if-built, joined-both-ways}
 use Rattle.operations.proofs.HandleLaw.{Kept, rule-is-meaning, opened-kept, handle-law}
 use Rattle.operations.proofs.MeaningAdded.{stands-means}
 
@@ -23,17 +25,6 @@ and-turned true true = refl
 and-turned true false = refl
 and-turned false true = refl
 and-turned false false = refl
-
--- ---- opening
-opened-answer : (o : Opened) (n : ℕ) (list s : List ℕ) → opened o n list s .answer ≡ o
-opened-answer Accepted n list s = refl
-opened-answer TooManyFields n list s = refl
-opened-answer OddList n list s = refl
-opened-answer TooManyQuestions n list s = refl
-opened-answer OutOfLimits n list s = refl
-opened-answer NotSimplified n list s = refl
-opened-answer NotAbove n list s = refl
-opened-answer TooShort n list s = refl
 
 -- ---- the ledger
 -- an accepted call's pair is entered
@@ -106,25 +97,51 @@ module _ (limits : Limits) (n : ℕ) (list s first second : List ℕ) (e : openi
         (entered (books₂ .ledger) forward (answer-at (join a b) books₂) c e₃))
         (entered (books₃ .ledger) backward (answer-at (join b a) books₃) d e₄) .1 alike
 
--- ---- as the promises of the functions say it
-module _ (limits : Limits) (n : ℕ) (list s first second : List ℕ) {w₀ w₁ w₂ w₃ w₄ : List ℕ} {a b c d : ℕ} {o : Opened} {r₁ r₂ r₃ r₄ : Built} where
-  pub joins-alike : outcome o w₀ ≡ open-store limits n list s → o ≡ Accepted
-      → outcome r₁ w₁ ≡ operation.build limits first w₀ → r₁ ≡ Handle a
-      → outcome r₂ w₂ ≡ operation.build limits second w₁ → r₂ ≡ Handle b
-      → outcome r₃ w₃ ≡ operation.join limits a b w₂ → r₃ ≡ Handle c
-      → outcome r₄ w₄ ≡ operation.join limits b a w₃ → r₄ ≡ Handle d
-      → c ≡ d
-  unfolding open-store
-  joins-alike p₀ q₀ p₁ q₁ p₂ q₂ p₃ q₃ p₄ q₄ =
-      let e : opening limits n list (length s) ≡ Accepted =
-      sym (opened-answer (opening limits n list (length s)) n list s) ∙ sym (ap (λ (x : Outcome Opened). x .answer) p₀) ∙ q₀ in
-      let f₀ : w₀ ≡ opened-words n list (length s) =
-      ap (λ (x : Outcome Opened). x .words) p₀ ∙ ap (λ x. opened x n list s .words) e in
-      let f₁ = ap (λ (x : Outcome Built). x .words) p₁ ∙ ap (λ w. operation.build limits first w .words) f₀ in
-      let f₂ = ap (λ (x : Outcome Built). x .words) p₂ ∙ ap (λ w. operation.build limits second w .words) f₁ in
-      let f₃ = ap (λ (x : Outcome Built). x .words) p₃ ∙ ap (λ w. operation.join limits a b w .words) f₂ in
-      joins-equal limits n list s first second e a b c d
-      (sym (ap (λ w. operation.build limits first w .answer) f₀) ∙ sym (ap (λ (x : Outcome Built). x .answer) p₁) ∙ q₁)
-      (sym (ap (λ w. operation.build limits second w .answer) f₁) ∙ sym (ap (λ (x : Outcome Built). x .answer) p₂) ∙ q₂)
-      (sym (ap (λ w. operation.join limits a b w .answer) f₂) ∙ sym (ap (λ (x : Outcome Built). x .answer) p₃) ∙ q₃)
-      (sym (ap (λ w. operation.join limits b a w .answer) f₃) ∙ sym (ap (λ (x : Outcome Built). x .answer) p₄) ∙ q₄)
+-- ---- a claim about what follows a call, which is accepted or refused
+module _ (P : Outcome Joins → Type 0) where
+  by-opened : (limits : Limits) (n : ℕ) (list s : List ℕ) (rest : List ℕ → Outcome Joins)
+      → (opening limits n list (length s) ≡ Accepted → P (rest (opened-words n list (length s)))) → P (outcome Refused s)
+      → P (if-opened (open-store limits n list s) rest)
+  unfolding open-store if-opened
+  by-opened limits n list s rest goes-on stops = go (opening limits n list (length s)) refl
+    where
+      go : (o : Opened) → opening limits n list (length s) ≡ o → P (if-opened (opened o n list s) rest)
+      go Accepted e = goes-on e
+      go TooManyFields e = stops
+      go OddList e = stops
+      go TooManyQuestions e = stops
+      go OutOfLimits e = stops
+      go NotSimplified e = stops
+      go NotAbove e = stops
+      go TooShort e = stops
+
+  by-built : (o : Outcome Built) (rest : ℕ → List ℕ → Outcome Joins)
+      → ((h : ℕ) → o .answer ≡ Handle h → P (rest h (o .words))) → P (outcome Refused (o .words)) → P (if-built o rest)
+  unfolding if-built
+  by-built o rest goes-on stops = go (o .answer) refl
+    where
+      go : (x : Built) → o .answer ≡ x → P (if-built (outcome x (o .words)) rest)
+      go (Handle h) e = goes-on h e
+      go NotSound e = stops
+      go NoHandle e = stops
+      go NoWords e = stops
+      go NotRows e = stops
+      go TooManyRows e = stops
+      go BadRow e = stops
+      go Outside e = stops
+      go NotListed e = stops
+      go NoRoom e = stops
+
+-- ---- the five calls, as the definition has them
+abbrev Alike : Outcome Joins → Type 0
+Alike o = SameHandles (o .answer)
+
+pub joins-alike : (limits : Limits) (n : ℕ) (list first second s : List ℕ) → Alike (joined-both-ways limits n list first second s)
+unfolding joined-both-ways
+joins-alike limits n list first second s =
+    by-opened Alike limits n list s _ (λ e.
+    by-built Alike _ _ (λ a e₁.
+    by-built Alike _ _ (λ b e₂.
+    by-built Alike _ _ (λ c e₃.
+    by-built Alike _ _ (λ d e₄.
+    joins-equal limits n list s first second e a b c d e₁ e₂ e₃ e₄) tt) tt) tt) tt) tt

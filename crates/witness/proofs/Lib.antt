@@ -1,1 +1,3 @@
 pub mod JoinsAlike
+pub mod JoinWays
+pub mod BothAccepted

@@ -1,5 +1,8 @@
 // Joining two rules in both orders.
-ghost use Rattle.witness.specs.Joined.{SameHandles};
+ghost use mathlib.Core.Path.{_≡_};
+ghost use Rattle.store.specs.Limits as limit;
+ghost use Rattle.store.specs.Outcome.{outcome};
+ghost use Rattle.witness.specs.Joined.{SameHandles, joined-both-ways};
 use building::build;
 use building::join;
 use operations::Built;
@@ -20,6 +23,8 @@ pub fn join_both_ways(
     second: &[u32],
     store: &mut [u32],
 ) -> Joins
+    ensures { λ r. ⌜ outcome r (now (store .exit))
+        ≡ joined-both-ways limit.store-limits n (now (list .entry)) (now (first .entry)) (now (second .entry)) (now (store .entry)) ⌝ }
     ensures { λ r. ⌜ SameHandles r ⌝ }
 {
     let opened = open(n, list, store);

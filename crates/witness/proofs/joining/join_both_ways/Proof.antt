@@ -1,7 +1,7 @@
--- `join_both_ways` meets its contract: where every call is accepted, the promises of the calls are what the handle law speaks of.
+-- `join_both_ways` meets its contract: the promises of its calls, put one after the other, are the definition.
 use borrow.Author.Needs.{needs}
 use Rattle.store.specs.Limits.{store-limits}
-use Rattle.witness.proofs.JoinsAlike.{joins-alike}
+use Rattle.witness.proofs.JoinWays.{not-open, no-first, no-second, no-forward, no-backward, both}
 use Rattle.witness.proofs.joining.join_both_ways.Statement.{statement}
 use Rattle.witness.proofs.joining.join_both_ways.Tie as tie
 
@@ -15,7 +15,9 @@ same-length : tie.Need-same-length
 same-length c = search needs
 
 returns : tie.Need-returns
-returns c = search needs
+returns c =
+    let opened = c .before in
+    not-open store-limits _ _ _ _ _ (opened .before .before .open .ensures) (c .match .keys2)
 
 build-requires : tie.Need-build-requires
 build-requires c κs = search needs
@@ -27,7 +29,12 @@ same-length-2 : tie.Need-same-length-2
 same-length-2 c = search needs
 
 returns-2 : tie.Need-returns-2
-returns-2 c = search needs
+returns-2 c =
+    let first = c .before in
+    let told-opened = first .before .before .before .before in
+    let opened = told-opened .before .before in
+    no-first store-limits _ _ _ _ _ (opened .before .before .open .ensures) (told-opened .enum-told .given .1)
+    (first .before .before .build .ensures) (c .match2 .keys2)
 
 build-requires-2 : tie.Need-build-requires-2
 build-requires-2 c κs = search needs
@@ -39,7 +46,15 @@ same-length-3 : tie.Need-same-length-3
 same-length-3 c = search needs
 
 returns-3 : tie.Need-returns-3
-returns-3 c = search needs
+returns-3 c =
+    let second = c .before in
+    let told-first = second .before .before .before .before in
+    let first = told-first .before .before .before in
+    let told-opened = first .before .before .before .before in
+    let opened = told-opened .before .before in
+    no-second store-limits _ _ _ _ _ (opened .before .before .open .ensures) (told-opened .enum-told .given .1)
+    (first .before .before .build .ensures) (told-first .before .one .given .1)
+    (second .before .before .build2 .ensures) (c .match3 .keys2)
 
 join-requires : tie.Need-join-requires
 join-requires c κs = search needs
@@ -51,7 +66,18 @@ same-length-4 : tie.Need-same-length-4
 same-length-4 c = search needs
 
 returns-4 : tie.Need-returns-4
-returns-4 c = search needs
+returns-4 c =
+    let forward = c .before in
+    let told-second = forward .before .before .before .before in
+    let second = told-second .before .before .before in
+    let told-first = second .before .before .before .before in
+    let first = told-first .before .before .before in
+    let told-opened = first .before .before .before .before in
+    let opened = told-opened .before .before in
+    no-forward store-limits _ _ _ _ _ (opened .before .before .open .ensures) (told-opened .enum-told .given .1)
+    (first .before .before .build .ensures) (told-first .before .one .given .1)
+    (second .before .before .build2 .ensures) (told-second .before .other .given .1)
+    (forward .before .before .join .ensures) (c .match4 .keys2)
 
 join-requires-2 : tie.Need-join-requires-2
 join-requires-2 c κs = search needs
@@ -63,23 +89,42 @@ same-length-5 : tie.Need-same-length-5
 same-length-5 c = search needs
 
 returns-5 : tie.Need-returns-5
-returns-5 c = search needs
+returns-5 c =
+    let backward = c .before in
+    let told-forward = backward .before .before .before .before in
+    let forward = told-forward .before .before .before in
+    let told-second = forward .before .before .before .before in
+    let second = told-second .before .before .before in
+    let told-first = second .before .before .before .before in
+    let first = told-first .before .before .before in
+    let told-opened = first .before .before .before .before in
+    let opened = told-opened .before .before in
+    no-backward store-limits _ _ _ _ _ (opened .before .before .open .ensures) (told-opened .enum-told .given .1)
+    (first .before .before .build .ensures) (told-first .before .one .given .1)
+    (second .before .before .build2 .ensures) (told-second .before .other .given .1)
+    (forward .before .before .join .ensures) (told-forward .before .forward .given .1)
+    (backward .before .before .join2 .ensures) (c .match5 .keys2)
 
 same-length-6 : tie.Need-same-length-6
 same-length-6 c = search needs
 
 returns-6 : tie.Need-returns-6
 returns-6 c =
-    let third = c .before .before .before .before .before .before .before in
-    let second = third .before .before .before .before .before .before .before in
-    let first = second .before .before .before .before .before .before .before in
-    let opened = first .before .before .before .before .before .before .before in
-    joins-alike store-limits _ _ _ _ _
-    (opened .before .before .before .before .open .ensures) (opened .enum-told .given .1)
-    (first .before .before .before .before .before .build .ensures) (first .before .one .given .1)
-    (second .before .before .before .before .before .build2 .ensures) (second .before .other .given .1)
-    (third .before .before .before .before .before .join .ensures) (third .before .forward .given .1)
-    (c .before .before .before .before .before .join2 .ensures) (c .before .backward .given .1)
+    let told-backward = c in
+    let backward = told-backward .before .before .before in
+    let told-forward = backward .before .before .before .before in
+    let forward = told-forward .before .before .before in
+    let told-second = forward .before .before .before .before in
+    let second = told-second .before .before .before in
+    let told-first = second .before .before .before .before in
+    let first = told-first .before .before .before in
+    let told-opened = first .before .before .before .before in
+    let opened = told-opened .before .before in
+    both store-limits _ _ _ _ _ (opened .before .before .open .ensures) (told-opened .enum-told .given .1)
+    (first .before .before .build .ensures) (told-first .before .one .given .1)
+    (second .before .before .build2 .ensures) (told-second .before .other .given .1)
+    (forward .before .before .join .ensures) (told-forward .before .forward .given .1)
+    (backward .before .before .join2 .ensures) (told-backward .before .backward .given .1)
 
 pub join-both-ways-spec : {M : Type 1} → statement M
 join-both-ways-spec =

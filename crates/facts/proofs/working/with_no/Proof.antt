@@ -1,8 +1,8 @@
--- `no` meets its contract: the question stands after the last one answered no, as the newest.
+-- `with_no` meets its contract: the question stands after the last one answered no, as the newest.
 use borrow.Author.Needs.{needs}
 use Rattle.facts.proofs.RecordWays.{listed-no}
-use Rattle.facts.proofs.working.no.Statement.{statement}
-use Rattle.facts.proofs.working.no.Tie as tie
+use Rattle.facts.proofs.working.with_no.Statement.{statement}
+use Rattle.facts.proofs.working.with_no.Tie as tie
 
 word-of-requires : tie.Need-word-of-requires
 word-of-requires c κs = search needs
@@ -28,8 +28,8 @@ add-f c = search needs
 returns : tie.Need-returns
 returns c = search (needs, listed-no)
 
-pub no-spec : {M : Type 1} → statement M
-no-spec =
+pub with-no-spec : {M : Type 1} → statement M
+with-no-spec =
     tie.close
     (tie.spec
     word-of-requires
