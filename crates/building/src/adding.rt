@@ -15,6 +15,7 @@ use operations::Built;
 use store::Limits;
 use store::entries_start;
 use store::wide;
+use walking::Goal;
 use walking::Subject;
 use walking::walk;
 
@@ -50,13 +51,13 @@ fn walk_all(limits: Limits, store: &mut [u32], table: &[u32], subject: Subject) 
     let questions = store[1];
     let used = wide(store[2]);
     load(store, entries_start(store), used, &mut lasts, &mut links);
+    let goal = Goal { limits, subject };
     walk(
-        limits,
+        goal,
         store,
         &mut lasts,
         &mut links,
         table,
-        subject,
         no_facts(),
         1,
         questions,

@@ -12,6 +12,7 @@ pub use entries::question_at;
 pub use handles::handle_value;
 pub use placing::place_entry;
 pub use placing::place_parts;
+pub use recursion::Goal;
 pub use recursion::walk;
 pub use rows::table_value;
 pub use subject::Subject;

@@ -18,6 +18,12 @@ use index::Lasts;
 use index::Links;
 use store::Limits;
 
+// What a walk finishes a diagram for, and within which limits.
+pub struct Goal {
+    pub limits: Limits,
+    pub subject: Subject,
+}
+
 // The leaf of a value that is known.
 fn leaf(d: Decision) -> Placed
     ensures { λ r. ⌜ r ≡ leaf-of d ⌝ }
@@ -29,24 +35,24 @@ fn leaf(d: Decision) -> Placed
     }
 }
 
-// The diagram of the subject under the facts, over the questions from the k-th on, of which so many are left.
+// The diagram of the goal's subject under the facts, over the questions from the k-th on, of which so many are left.
 pub fn walk(
-    limits: Limits,
+    goal: Goal,
     store: &mut [u32],
     lasts: &mut Lasts,
     links: &mut Links,
     table: &[u32],
-    subject: Subject,
     f: Facts,
     k: u32,
     left: u32,
 ) -> Placed
-    requires { ⌜ CanWalk limits (now table) subject (now store) f k left ⌝ }
+    requires { ⌜ CanWalk (goal .limits) (now table) (goal .subject) (now store) f k left ⌝ }
     requires { ⌜ InIndex (now store) (now lasts) (now links) ⌝ }
     ensures { λ r. ⌜ outcome r (now (store .exit))
-        ≡ spec.walk limits (now (table .entry)) subject left k (facts.state f) (now (store .entry)) ⌝ }
+        ≡ spec.walk (goal .limits) (now (table .entry)) (goal .subject) left k (facts.state f) (now (store .entry)) ⌝ }
     ensures { λ r. ⌜ InIndex (now (store .exit)) (now (lasts .exit)) (now (links .exit)) ⌝ }
 {
+    let subject = goal.subject;
     let known = value(table, subject, store, f);
     if left == 0 {
         return leaf(known);
@@ -58,44 +64,15 @@ pub fn walk(
     let asked = ask(f, q);
     let decision = asked.decision;
     let Decision::Open = decision else {
-        return walk(
-            limits,
-            store,
-            lasts,
-            links,
-            table,
-            subject,
-            f,
-            k + 1,
-            left - 1,
-        );
+        return walk(goal, store, lasts, links, table, f, k + 1, left - 1);
     };
     let yes = asked.yes;
-    let Placed::At(y) = walk(
-        limits,
-        store,
-        lasts,
-        links,
-        table,
-        subject,
-        yes,
-        k + 1,
-        left - 1,
-    ) else {
+    let other = no(f, q);
+    let Placed::At(y) = walk(goal, store, lasts, links, table, yes, k + 1, left - 1) else {
         return Placed::Full;
     };
-    let Placed::At(n) = walk(
-        limits,
-        store,
-        lasts,
-        links,
-        table,
-        subject,
-        no(f, q),
-        k + 1,
-        left - 1,
-    ) else {
+    let Placed::At(n) = walk(goal, store, lasts, links, table, other, k + 1, left - 1) else {
         return Placed::Full;
     };
-    place_parts(limits, store, lasts, links, k, y, n)
+    place_parts(goal.limits, store, lasts, links, k, y, n)
 }

@@ -19,7 +19,7 @@ use Rattle.walking.proofs.recursion.+walk.{statement}
 use Rattle.walking.proofs.recursion.+walk.Tie.{close}
 
 abbrev μ-walk : Measures 4 walk-kinds.ps ℕ
-μ-walk κs a = a .1 .1 .1 .1 .1 .1 .1 .1 .0
+μ-walk κs a = a .1 .1 .1 .1 .1 .1 .1 .0
 
 abbrev walk-at : ℕ → In 4 walk-kinds.ps
 walk-at t = and 4 walk-kinds.ps (is 4 walk-kinds.ps μ-walk t) walk.Pre
@@ -36,7 +36,7 @@ abbrev begin : (t : ℕ) → walk-lts.After-enum-told2 (knows t) (walk-at t) wal
 begin t o = o .before .before .before .before .before .before .before .before .before .before .before .before
 
 asking : (t : ℕ) (o : walk-lts.After-enum-told2 (knows t) (walk-at t) walk.Post)
-    → Asking (begin t o .args .limits) (begin t o .args .table .now) (begin t o .args .subject) (begin t o .args .store .now) (begin t o .args .f)
+    → Asking (begin t o .args .goal .limits) (begin t o .args .table .now) (begin t o .args .goal .subject) (begin t o .args .store .now) (begin t o .args .f)
     (begin t o .args .k) (begin t o .args .left) (o .before .before .before .question-at .result) (o .before .before .ask .result)
 asking t o =
     let e = o .before .before in
@@ -112,15 +112,18 @@ walk-returns-3 t c =
       w .walk .ensures .1,
     )
 
+walk-no-requires : (t : ℕ) → walk-lts.Need-no-requires (knows t) (walk-at t) walk.Post
+walk-no-requires t c κs = can-answer-no (asking t (c .before))
+
 walk-add-walk-2 : (t : ℕ) → walk-lts.Need-add-walk-2 (knows t) (walk-at t) walk.Post
-walk-add-walk-2 t c = record { fits = next-fits (begin t (c .before .before .before .before) .pre .1 .0) }
+walk-add-walk-2 t c = record { fits = next-fits (begin t (c .before .before .before .before .before) .pre .1 .0) }
 
 walk-sub-walk-2 : (t : ℕ) → walk-lts.Need-sub-walk-2 (knows t) (walk-at t) walk.Post
 walk-sub-walk-2 t c = search needs
 
 walk-walk-requires-2 : (t : ℕ) → walk-lts.Need-walk-requires-2 (knows t) (walk-at t) walk.Post
 walk-walk-requires-2 t c κs =
-    let o = c .before .before .before .before in
+    let o = c .before .before .before .before .before in
     (omega (arith, begin t o .pre .0, asking t o .more), (can-yes (asking t o), begin t o .pre .1 .1))
 
 walk-enum-known-y : (t : ℕ) → walk-lts.Need-enum-known-y (knows t) (walk-at t) walk.Post
@@ -135,10 +138,7 @@ walk-same-length-4 t c = search needs
 walk-returns-4 : (t : ℕ) → walk-lts.Need-returns-4 (knows t) (walk-at t) walk.Post
 walk-returns-4 t c =
     let w₂ = c .before .before .before .before in
-    (on-yes-full (asking t (w₂ .before .before .before .before .before)) (w₂ .walk2 .ensures .0) (c .enum-told3 .given .1), w₂ .walk2 .ensures .1)
-
-walk-no-requires : (t : ℕ) → walk-lts.Need-no-requires (knows t) (walk-at t) walk.Post
-walk-no-requires t c κs = can-answer-no (asking t (c .before .before .before .before .before .before .before .before .before .before .before .before .before))
+    (on-yes-full (asking t (w₂ .before .before .before .before .before .before)) (w₂ .walk2 .ensures .0) (c .enum-told3 .given .1), w₂ .walk2 .ensures .1)
 
 walk-add-walk-3 : (t : ℕ) → walk-lts.Need-add-walk-3 (knows t) (walk-at t) walk.Post
 walk-add-walk-3 t c = record { fits = next-fits (begin t (c .before .before .before .before .before .before .before .before .before .before .before .before .before .before) .pre .1 .0) }
@@ -148,9 +148,10 @@ walk-sub-walk-3 t c = omega (arith, asking t (c .before .before .before .before 
 
 walk-walk-requires-3 : (t : ℕ) → walk-lts.Need-walk-requires-3 (knows t) (walk-at t) walk.Post
 walk-walk-requires-3 t c κs =
-    let w₂ = c .before .before .before .before .before .before .before .before .before in
-    let o = w₂ .before .before .before .before .before in
-    (omega (arith, begin t o .pre .0, asking t o .more), (can-no (asking t o) (w₂ .walk2 .ensures .0) (c .no .ensures), w₂ .walk2 .ensures .1))
+    let w₂ = c .before .before .before .before .before .before .before .before in
+    let answered = w₂ .before .before .before .before in
+    let o = answered .before .before in
+    (omega (arith, begin t o .pre .0, asking t o .more), (can-no (asking t o) (w₂ .walk2 .ensures .0) (answered .no .ensures), w₂ .walk2 .ensures .1))
 
 walk-enum-known-n : (t : ℕ) → walk-lts.Need-enum-known-n (knows t) (walk-at t) walk.Post
 walk-enum-known-n t c = search needs
@@ -164,17 +165,18 @@ walk-same-length-5 t c = search needs
 walk-returns-5 : (t : ℕ) → walk-lts.Need-returns-5 (knows t) (walk-at t) walk.Post
 walk-returns-5 t c =
     let w₃ = c .before .before .before .before in
-    let y = w₃ .before .before .before .before .before .before in
-    let w₂ = y .before .before .before .before in (
-      on-no-full (asking t (w₂ .before .before .before .before .before)) (w₂ .walk2 .ensures .0) (y .y .given .1) (w₃ .before .no .result) (w₃ .before .no .ensures) (w₃ .walk3 .ensures .0) (c .enum-told4 .given .1),
+    let y = w₃ .before .before .before .before .before in
+    let w₂ = y .before .before .before .before in
+    let answered = w₂ .before .before .before .before in (
+      on-no-full (asking t (answered .before .before)) (w₂ .walk2 .ensures .0) (y .y .given .1) (answered .no .result) (answered .no .ensures) (w₃ .walk3 .ensures .0) (c .enum-told4 .given .1),
       w₃ .walk3 .ensures .1,
     )
 
 walk-place-parts-requires : (t : ℕ) → walk-lts.Need-place-parts-requires (knows t) (walk-at t) walk.Post
 walk-place-parts-requires t c κs =
     let w₃ = c .before .before .before .before .before .before .before .before in
-    let w₂ = w₃ .before .before .before .before .before .before .before .before .before .before in
-    record { entries-few = begin t (w₂ .before .before .before .before .before) .pre .1 .0 .entries-few; index = w₃ .walk3 .ensures .1 }
+    let w₂ = w₃ .before .before .before .before .before .before .before .before .before in
+    record { entries-few = begin t (w₂ .before .before .before .before .before .before) .pre .1 .0 .entries-few; index = w₃ .walk3 .ensures .1 }
 
 walk-same-length-6 : (t : ℕ) → walk-lts.Need-same-length-6 (knows t) (walk-at t) walk.Post
 walk-same-length-6 t c = search needs
@@ -184,9 +186,10 @@ walk-returns-6 t c =
     let p = c .before .before in
     let n = p .before .before .before .before .before in
     let w₃ = n .before .before .before .before in
-    let y = w₃ .before .before .before .before .before .before in
-    let w₂ = y .before .before .before .before in (
-      on-parts (asking t (w₂ .before .before .before .before .before)) (w₂ .walk2 .ensures .0) (y .y .given .1) (w₃ .before .no .result) (w₃ .before .no .ensures) (w₃ .walk3 .ensures .0) (n .n .given .1) (p .place-parts .ensures .0),
+    let y = w₃ .before .before .before .before .before in
+    let w₂ = y .before .before .before .before in
+    let answered = w₂ .before .before .before .before in (
+      on-parts (asking t (answered .before .before)) (w₂ .walk2 .ensures .0) (y .y .given .1) (answered .no .result) (answered .no .ensures) (w₃ .walk3 .ensures .0) (n .n .given .1) (p .place-parts .ensures .0),
       p .place-parts .ensures .1,
     )
 
@@ -210,6 +213,7 @@ pub +walk-spec : {M : Type 1} → statement M
     (walk-walk-requires t)
     (walk-same-length-3 t)
     (walk-returns-3 t)
+    (walk-no-requires t)
     (walk-add-walk-2 t)
     (walk-sub-walk-2 t)
     (walk-walk-requires-2 t)
@@ -217,7 +221,6 @@ pub +walk-spec : {M : Type 1} → statement M
     (walk-enum-told-3 t)
     (walk-same-length-4 t)
     (walk-returns-4 t)
-    (walk-no-requires t)
     (walk-add-walk-3 t)
     (walk-sub-walk-3 t)
     (walk-walk-requires-3 t)
