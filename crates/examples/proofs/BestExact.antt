@@ -63,7 +63,7 @@ module _ (ask : ℕ → Equation) (n : ℕ) where
   Sized none = Unit {0}
   Sized (some x) = length x ≡ n
 
-  sheet-size : (v : Valuation) → length (sheet n v) ≡ n
+  pub sheet-size : (v : Valuation) → length (sheet n v) ≡ n
   sheet-size v = counts-length n 1 (at v)
 
   pub right-sized : {xs : List Fact} {t : Tree} {b r : Best} → Right xs t b r → Sized b → Sized r
@@ -113,6 +113,23 @@ module _ (ask : ℕ → Equation) (n : ℕ) where
             keeps = λ w e. subst (λ u. NotBefore u (some y)) (same-some e) (not-before (lex-irreflexive y));
           })
 
+  -- ---- two parts, sought one after the other: what satisfies one of them satisfies the whole, and the other way round
+  module _ {xs xs₁ xs₂ : List Fact} {t t₁ t₂ : Tree} (from-first : (v : Valuation) → Satisfies xs₁ t₁ v → Satisfies xs t v)
+      (from-second : (v : Valuation) → Satisfies xs₂ t₂ v → Satisfies xs t v)
+      (either : (v : Valuation) → Satisfies xs t v → Satisfies xs₁ t₁ v ⊎ Satisfies xs₂ t₂ v) where
+    right-parts : {b r o : Best} → Sized b → Right xs₁ t₁ b r → Right xs₂ t₂ r o → Right xs t b o
+    right-parts {b} {r} {o} z w u = record {
+      comes-of = elim (u .comes-of) [
+        | inl e ↦ elim (w .comes-of) [ inl d ↦ inl (e ∙ d) | inr f ↦ inr (f .0, from-first (f .0) (f .1), e ∙ f .2) ]
+        | inr f ↦ inr (f .0, from-second (f .0) (f .1), f .2)
+      ];
+      is-least = λ v s. elim (either v s) [
+        | inl a ↦ pass-on (sheet-size v) (right-sized w z) (w .is-least v a) (u .keeps)
+        | inr a ↦ u .is-least v a
+      ];
+      keeps = λ x e. pass-on (subst Sized e z) (right-sized w z) (w .keeps x e) (u .keeps);
+    }
+
   -- ---- an entry
   best-cases : (P : Best → Type 0) (k : ℕ) (y m : Tree) (st : State) (b : Best)
       → (decide st (ask k) ≡ Always → P (best ask n y st b)) → (decide st (ask k) ≡ Never → P (best ask n m st b))
@@ -154,20 +171,22 @@ module _ (ask : ℕ → Equation) (n : ℕ) where
       keeps = w .keeps;
     }
 
+    from-yes : (v : Valuation) → Satisfies (fact (ask k) true ∷ xs) y v → Satisfies xs (node k y m) v
+    from-yes v s = (s .0 .1, through-yes v (s .0 .0) ∙ s .1)
+
+    from-no : (v : Valuation) → Satisfies (fact (ask k) false ∷ xs) m v → Satisfies xs (node k y m) v
+    from-no v s = (s .0 .1, through-no v (s .0 .0) ∙ s .1)
+
+    either-way : (v : Valuation) → Satisfies xs (node k y m) v → Satisfies (fact (ask k) true ∷ xs) y v ⊎ Satisfies (fact (ask k) false ∷ xs) m v
+    either-way v s = by-test (λ t. truth v (ask k) ≡ t → Satisfies (fact (ask k) true ∷ xs) y v ⊎ Satisfies (fact (ask k) false ∷ xs) m v) (truth v (ask k))
+        (λ _ e. inl ((e, s .0), sym (through-yes v e) ∙ s .1)) (λ _ e. inr ((e, s .0), sym (through-no v e) ∙ s .1)) refl
+
     right-both : {b r o : Best} → Sized b → Right (fact (ask k) true ∷ xs) y b r → Right (fact (ask k) false ∷ xs) m r o → Right xs (node k y m) b o
-    right-both {b} {r} {o} z w u = record {
-      comes-of = elim (u .comes-of) [
-        | inl e ↦ elim (w .comes-of) [
-          | inl d ↦ inl (e ∙ d)
-          | inr f ↦ inr (f .0, (f .1 .0 .1, through-yes (f .0) (f .1 .0 .0) ∙ f .1 .1), e ∙ f .2)
-        ]
-        | inr f ↦ inr (f .0, (f .1 .0 .1, through-no (f .0) (f .1 .0 .0) ∙ f .1 .1), f .2)
-      ];
-      is-least = λ v s. by-test (λ t. truth v (ask k) ≡ t → NotBefore (sheet n v) o) (truth v (ask k))
-          (λ _ e. pass-on (sheet-size v) (right-sized w z) (w .is-least v ((e, s .0), sym (through-yes v e) ∙ s .1)) (u .keeps))
-          (λ _ e. u .is-least v ((e, s .0), sym (through-no v e) ∙ s .1)) refl;
-      keeps = λ x e. pass-on (subst Sized e z) (right-sized w z) (w .keeps x e) (u .keeps);
-    }
+    right-both = right-parts from-yes from-no either-way
+
+    -- the parts may be sought in the other order
+    pub right-turned : {b r o : Best} → Sized b → Right (fact (ask k) false ∷ xs) m b r → Right (fact (ask k) true ∷ xs) y r o → Right xs (node k y m) b o
+    right-turned = right-parts from-no from-yes (λ v s. elim (either-way v s) [ inl a ↦ inr a | inr a ↦ inl a ])
 
   pub best-right : (t : Tree) (xs : List Fact) (b : Best) → free (state-of xs) ≡ true → Sized b → Right xs t b (best ask n t (state-of xs) b)
   unfolding best

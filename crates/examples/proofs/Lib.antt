@@ -1,9 +1,10 @@
 pub mod Sheets
 pub mod SheetOrder
+pub mod BestExact
+pub mod BestOnly
 pub mod BestLaws
 pub mod SeekLaws
 pub mod SheetWritten
-pub mod BestExact
 pub mod ExampleMeans
 pub mod ExampleBound
 pub mod ExampleWays

@@ -1,10 +1,10 @@
 -- Sheets compared as lists and field by field are compared alike: one is before another exactly if it is smaller at the first field where they
 -- differ.
 use Prim.Native.Nat.{ℕ, zero, suc, _+_, _≤_, _<_}
-use mathlib.Core.Path.{_≡_, refl, sym, ap, _∙_}
+use mathlib.Core.Path.{_≡_, refl, sym, ap, ap₂, _∙_}
 use mathlib.Core.Logic.{_≢_, inl, inr}
 use mathlib.Core.Bool.{true, false, true≢false, false≢true}
-use mathlib.Core.List.{List}
+use mathlib.Core.List.{List, [], _∷_}
 use native.Mathlib.Omega.{arith}
 use native.Mathlib.Decide.{decLe, ℕ-discrete}
 use lib.ListN.{length}
@@ -36,6 +36,22 @@ not-before-trans xs ys zs l a b = by-test (λ t. t ≡ false) (lex xs zs) (λ c.
           | inl d ↦ true≢false (sym d ∙ a)
           | inr d ↦ true≢false (sym (lex-transitive ys xs zs d c) ∙ b)
         ]
+
+-- sheets of which neither is before the other are the same
+pub neither-before : (xs ys : List ℕ) → length xs ≡ length ys → lex xs ys ≡ false → lex ys xs ≡ false → xs ≡ ys
+neither-before [] [] l a b = refl
+neither-before [] (y ∷ ys) l a b = absurd (omega arith)
+neither-before (x ∷ xs) [] l a b = absurd (omega arith)
+neither-before (x ∷ xs) (y ∷ ys) l a b = elim (decLe y x) [
+  | no h ↦ absurd (true≢false (sym (lex-less x y xs ys (omega arith)) ∙ a))
+  | yes h ↦ elim (decLe x y) [
+    | no g ↦ absurd (true≢false (sym (lex-less y x ys xs (omega arith)) ∙ b))
+    | yes g ↦
+        let e : x ≡ y = omega arith in
+        ap₂ (λ (k : ℕ) (ks : List ℕ). k ∷ ks) e
+        (neither-before xs ys (omega arith) (sym (lex-equal x y xs ys e) ∙ a) (sym (lex-equal y x ys xs (sym e)) ∙ b))
+  ]
+]
 
 -- ---- the first field that differs
 agree-lex : (n i f : ℕ) (c d : ℕ → ℕ) → i ≤ f → f < i + n → ((g : ℕ) → i ≤ g → g < f → c g ≡ d g) → c f < d f → lex (counts-from n i c) (counts-from n i d) ≡ true

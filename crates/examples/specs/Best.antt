@@ -1,6 +1,6 @@
 -- The least sheet over the paths of a diagram that lead to always: at each such path the least sheet that fits its facts.
 use Prim.Native.Nat.{ℕ, zero, suc, _+_, _≤_}
-use mathlib.Core.Bool.{true, false, cond}
+use mathlib.Core.Bool.{Bool, true, false, cond, not}
 use mathlib.Core.List.{List, [], _∷_}
 use lib.ListN.{getD}
 use Rattle.examples.specs.declared.best.Best as code
@@ -44,6 +44,11 @@ best ask n (node k y m) st b =
       | Never ↦ best ask n m st b
       | Open ↦ best ask n m (no-to st (ask k)) (best ask n y (yes-to st (ask k)) b)
     ]
+
+-- no sheet that fits the facts is before the best so far
+abbrev pub beaten : ℕ → State → Best → Bool
+beaten n st none = false
+beaten n st (some y) = not (lex (sheet n (least-sheet n st)) y)
 
 -- ---- the code's sheets
 abbrev pub sheet-of : ℕ → Sheet → List ℕ

@@ -1,6 +1,7 @@
 // The least sheet over the paths to the leaf always.
 ghost use mathlib.Core.Path.{_≡_};
 ghost use Rattle.examples.specs.Best as spec;
+ghost use Rattle.facts.specs.LeastRecord.{HasLeast};
 ghost use Rattle.facts.specs.Record as facts;
 ghost use Rattle.store.specs.Layout as layout;
 ghost use Rattle.store.specs.Tree as tree;
@@ -57,11 +58,29 @@ fn lesser(n: u32, best: Best, sheet: Sheet) -> Best
     Best { found: true, sheet }
 }
 
-// The least sheet that fits the facts and leads from a handle to always, or the best so far if that is before it.
+// Whether no sheet that fits the facts is before the best so far.
+fn is_beaten(n: u32, best: Best, f: Facts) -> bool
+    requires { ⌜ HasLeast f n ⌝ }
+    ensures { λ r. ⌜ r ≡ spec.beaten n (facts.state f) (spec.best-of n best) ⌝ }
+{
+    if best.found {
+        if is_before(n, least_sheet(f, n), best.sheet) {
+            return false;
+        }
+        return true;
+    }
+    false
+}
+
+// The least sheet that fits the facts and leads from a handle to always, or the best so far if that is before it. A handle whose facts leave
+// no better sheet is not walked; of two parts the one with the lesser sheet comes first, so that the other is likely to be beaten.
 pub fn best_from(s: &[u32], handle: usize, f: Facts, n: u32, best: Best) -> Best
     requires { ⌜ spec.CanSeek (now s) handle f n ⌝ }
     ensures { λ r. ⌜ spec.best-of n r ≡ spec.best (layout.question (now (s .entry))) n (tree.tree (now (s .entry)) handle) (facts.state f) (spec.best-of n best) ⌝ }
 {
+    if is_beaten(n, best, f) {
+        return best;
+    }
     if handle == 0 {
         return best;
     }
@@ -77,8 +96,13 @@ pub fn best_from(s: &[u32], handle: usize, f: Facts, n: u32, best: Best) -> Best
         Decision::Always => best_from(s, yes_of(s, i), f, n, best),
         Decision::Never => best_from(s, no_of(s, i), f, n, best),
         Decision::Open => {
+            let other = no(f, q);
+            if is_before(n, least_sheet(other, n), least_sheet(g, n)) {
+                let first = best_from(s, no_of(s, i), other, n, best);
+                return best_from(s, yes_of(s, i), g, n, first);
+            }
             let first = best_from(s, yes_of(s, i), g, n, best);
-            best_from(s, no_of(s, i), no(f, q), n, first)
+            best_from(s, no_of(s, i), other, n, first)
         }
     }
 }
