@@ -1,7 +1,6 @@
 -- Cases 6 to 8 are one run of the handle law's own run, by computing: the law is about something.
-use Prim.Native.Nat.{ℕ}
 use mathlib.Core.Path.{_≡_, refl}
-use mathlib.Core.List.{List, [], _∷_, map}
+use mathlib.Core.List.{[], _∷_, map}
 use Rattle.diagram.specs.Finish.{same-tree, parts, finish}
 use Rattle.diagram.specs.Insert.{with-entry, add-entry, place-entry, insert}
 use Rattle.diagram.specs.Questions.{questions-from}

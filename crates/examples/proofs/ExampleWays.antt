@@ -11,7 +11,7 @@ use lib.Dec.{ltb}
 use lib.ListN.{length, getD}
 use Rattle.examples.specs.declared.best.Best as code
 use Rattle.examples.specs.declared.giving.Example.the-variants.{Written, NotSound, NoHandle, WrongLength, Nothing}
-use Rattle.examples.specs.Best.{sheet, Best, none, some, best, sheet-of, best-of, CanSeek}
+use Rattle.examples.specs.Best.{sheet, none, some, best, sheet-of, best-of, CanSeek}
 use Rattle.examples.specs.Example.{given, example, CanWrite}
 use Rattle.facts.specs.declared.record.Facts.{Facts}
 use Rattle.facts.specs.Least.{IsLeast, Near}

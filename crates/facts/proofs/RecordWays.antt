@@ -7,16 +7,14 @@ use mathlib.Core.List.{List, [], _∷_}
 use native.Mathlib.Omega.{arith}
 use native.Mathlib.Decide.{ℕ-discrete}
 use native.Mathlib.Numerals.{add-one}
-use borrow.Author.Tests.{eq-eqb, ne-eqb}
-use lib.Dec.{eqb}
 use lib.ListN.{length, getD, set}
 use lib.Seq.{getD-set-same, getD-set-other}
 use Rattle.terms.specs.Words.{equation, term-of, word-of}
 use Rattle.terms.specs.declared.term.Equation.{Equation}
 use Rattle.terms.specs.declared.term.Term.{Term}
 use Rattle.facts.specs.declared.record.Facts.{Facts}
-use Rattle.facts.specs.Record.{state, last-field, most-noes, most-steps, question-at, noes-in, Small, Within, most-joined, Side}
-use Rattle.facts.specs.State.{Classes, left-side, right-side, settled, none-settled, no-to}
+use Rattle.facts.specs.Record.{state, last-field, most-noes, most-steps, question-at, noes-in, Small}
+use Rattle.facts.specs.State.{Classes, settled, none-settled, no-to}
 use Rattle.terms.proofs.TermWords.{term-of-word-of}
 
 -- inside a list the default does not matter, beyond it it is the value

@@ -2,10 +2,9 @@
 use Prim.Native.Nat.{ℕ, zero, suc, _+_, _≤_, _<_, _^_}
 use mathlib.Core.Path.{_≡_, refl, sym, ap, subst, _∙_}
 use mathlib.Core.Logic.{_≢_}
-use mathlib.Core.Bool.{Bool, true, false, cond, true≢false, false≢true}
+use mathlib.Core.Bool.{Bool, true, false, cond, false≢true}
 use mathlib.Core.List.{List, [], _∷_}
 use native.Mathlib.Omega.{arith}
-use native.Mathlib.Decide.{ℕ-discrete}
 use borrow.Author.Tests.{eq-eqb}
 use lib.ListN.{length, getD}
 use denote.Enum.Declared.{tagOf}
@@ -17,9 +16,8 @@ use Rattle.facts.specs.declared.decision.Plan.{Plan}
 use Rattle.facts.specs.declared.decision.Plan.the-variants.{Keep, Clash, Join}
 use Rattle.facts.specs.declared.record.Facts.{Facts}
 use Rattle.facts.specs.declared.working.Worked.{Worked}
-use Rattle.facts.specs.Record.{state, last-field, most-steps, most-offset, most-joined, question-at, noes-in, Small, Within, Ready, CanJoin, WorkedYes, AskedOf}
-use Rattle.facts.specs.State.{State, left-side, right-side, settled, free, plan, plan-of, planned, yes-to, decide}
-use Rattle.terms.proofs.Cases.{by-eq}
+use Rattle.facts.specs.Record.{state, last-field, most-steps, most-offset, noes-in, Ready, CanJoin, WorkedYes, AskedOf}
+use Rattle.facts.specs.State.{State, settled, free, plan, plan-of, planned, yes-to, decide}
 use Rattle.facts.proofs.decision.Decision.{the-type}
 use Rattle.facts.proofs.PlanCases.{plan-cases}
 

@@ -67,12 +67,9 @@ pub record Within (bound : ℕ) (f : Facts) : Type 0 where
   pub noes-few : f .noes ≤ most-noes
   pub noes-small : (k : ℕ) → k < f .noes → Small most-steps (question-at (f .left) (f .right) k)
 
--- no offset of a record that holds facts is above the first, and after one join none is above the second
+-- no offset of a record that holds facts is above this
 abbrev pub most-offset : ℕ
 most-offset = last-field * (most-steps + 1)
-
-abbrev pub most-joined : ℕ
-most-joined = most-offset + (most-offset + most-steps)
 
 -- what working in and asking require
 pub record Ready (f : Facts) (q : Equation) : Type 0 where
@@ -94,11 +91,6 @@ pub record WorkedYes (f : Facts) (q : Equation) (r : Worked) : Type 0 where
 pub record AskedOf (f : Facts) (q : Equation) (r : Asked) : Type 0 where
   pub decision-is : r .decision ≡ decide (state f) q
   pub yes-is : r .decision ≡ Open → state (r .yes) ≡ yes-to (state f) q
-
--- a term of the record's fields, whose side fits a word
-pub record Side (f : Facts) (t : Term) : Type 0 where
-  pub on-field : t .field .0 ≤ last-field
-  pub sum-fits : getD (f .offset) (t .field .0) 0 + t .steps .0 < 2 ^ 32
 
 -- the i-th field, and room to raise its offset
 pub record CanRaise (f : Facts) (i by : ℕ) : Type 0 where

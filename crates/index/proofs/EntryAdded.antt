@@ -5,7 +5,7 @@ use mathlib.Core.Bool.{true, not}
 use mathlib.Core.List.{List}
 use native.Mathlib.Omega.{arith}
 use Rattle.store.specs.Layout.{Entry, entry}
-use Rattle.store.specs.Sound.{all-below, same-entry}
+use Rattle.store.specs.Sound.{same-entry}
 use Rattle.index.specs.Entries.{differ-below, is-entry, find-entry}
 use Rattle.index.specs.Chains.{Top, Chains, hash-of, bucket, Indexed}
 use Rattle.index.proofs.Below.{all-true, all-at, all-more}

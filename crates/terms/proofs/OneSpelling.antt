@@ -14,7 +14,7 @@ use Rattle.terms.specs.declared.term.Field.{Field}
 use Rattle.terms.specs.declared.term.Equation.{Equation}
 use Rattle.terms.specs.Meaning.{Valuation, count, value, truth}
 use Rattle.terms.specs.Form.{Simplified}
-use Rattle.terms.specs.Words.{field, steps}
+use Rattle.terms.specs.Words.{field}
 use Rattle.terms.proofs.Cases.{by-eq}
 use Rattle.terms.proofs.Numbers.{same-equation}
 use Rattle.terms.proofs.SimplifyForm.{smaller-right, bare-side, bare-left}

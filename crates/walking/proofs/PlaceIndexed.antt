@@ -1,13 +1,12 @@
 -- After an entry is placed all used entries are in the index: nothing was written, or the entry that is new is put there beside those before it,
 -- which are as they were.
-use Prim.Native.Nat.{ℕ, _+_, _*_, _≤_, _<_}
-use mathlib.Core.Path.{_≡_, refl, sym, ap, subst, _∙_}
-use mathlib.Core.Bool.{true}
+use Prim.Native.Nat.{ℕ, _+_, _≤_, _<_}
+use mathlib.Core.Path.{_≡_, refl, sym, ap, _∙_}
 use mathlib.Core.List.{List}
 use native.Mathlib.Omega.{arith}
 use lib.ListN.{length}
 use Rattle.diagram.specs.Insert.{with-entry}
-use Rattle.index.specs.Entries.{Fit, find-entry, differ-below}
+use Rattle.index.specs.Entries.{Fit, find-entry}
 use Rattle.index.specs.Chains.{Indexed, Ready}
 use Rattle.store.specs.declared.limits.Limits.{Limits}
 use Rattle.store.specs.Layout.{Entry, used, entries-start, entry, room}
