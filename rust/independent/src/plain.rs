@@ -1,7 +1,7 @@
 //! The operations as document 01 states them, with no thought of speed.
 
 use std::cell::RefCell;
-use std::collections::BTreeSet;
+use std::collections::{BTreeMap, BTreeSet};
 use std::rc::Rc;
 
 use crate::refusal::*;
@@ -12,7 +12,7 @@ use crate::{ALWAYS, FIRST_ENTRY, HEADING, MOST_ENTRIES, MOST_FIELDS, MOST_QUESTI
 pub type Truths = u32;
 
 /// A question: count of the left term = count of the right term.
-type Question = (Term, Term);
+pub type Question = (Term, Term);
 
 /// How the combinations of answers that some choice of counts gives are found.
 #[derive(Clone, Copy, PartialEq, Eq)]
@@ -74,15 +74,23 @@ pub fn smallest_box(n: u32, questions: &[Question]) -> u64 {
     u64::from(n) * (largest_gap + 1)
 }
 
-/// The combinations of answers that the sheets of the box give. By [`smallest_box`] these are all that any sheet gives.
-pub fn possible_by_counting(n: u32, questions: &[Question]) -> Vec<Truths> {
-    let mut found = BTreeSet::new();
+/// For each possible combination of answers a sheet that gives it, found by trying all sheets of the box.
+pub fn sheets_by_counting(n: u32, questions: &[Question]) -> Vec<Vec<u64>> {
+    let mut found = BTreeMap::new();
     let mut sheet = Some(vec![0; n as usize]);
     while let Some(counts) = sheet {
-        found.insert(truths_of(questions, &counts));
+        found.entry(truths_of(questions, &counts)).or_insert_with(|| counts.clone());
         sheet = next_sheet(counts, smallest_box(n, questions));
     }
-    found.into_iter().collect()
+    found.into_values().collect()
+}
+
+/// The combinations of answers that the sheets of the box give. By [`smallest_box`] these are all that any sheet gives.
+pub fn possible_by_counting(n: u32, questions: &[Question]) -> Vec<Truths> {
+    let mut possible: Vec<Truths> =
+        sheets_by_counting(n, questions).iter().map(|sheet| truths_of(questions, sheet)).collect();
+    possible.sort_unstable();
+    possible
 }
 
 /// The next sheet of the box, field 1 compared first, or none after the last.
@@ -120,7 +128,13 @@ pub fn possible_by_bounds(n: u32, questions: &[Question]) -> Vec<Truths> {
             .filter(|truths| fits(n, &facts_of(&questions[..asked], *truths)))
             .collect();
     }
+    found.sort_unstable();
     found
+}
+
+/// For each possible combination of answers its least sheet, found by difference bounds.
+pub fn sheets_by_bounds(n: u32, questions: &[Question]) -> Vec<Vec<u64>> {
+    possible_by_bounds(n, questions).into_iter().map(|truths| least_sheet(n, facts_of(questions, truths))).collect()
 }
 
 /// An answered question.

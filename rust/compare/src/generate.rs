@@ -1,0 +1,347 @@
+//! Lists, rules, sheets and stores to try: good ones, and ones with a fault.
+
+use independent::{Term, FIRST_ENTRY, HEADING, MOST_FIELDS, MOST_QUESTIONS, MOST_ROWS, MOST_STEPS};
+
+use crate::random::Random;
+
+/// The number of fields and the list words of a store to be opened.
+#[derive(Clone, Debug)]
+pub struct Survey {
+    pub n: u32,
+    pub list: Vec<u32>,
+}
+
+/// How large the fields, gaps and lists of a random survey get.
+#[derive(Clone, Copy)]
+pub struct Size {
+    pub fields: (u32, u32),
+    pub most_steps: u32,
+    pub most_questions: u32,
+}
+
+/// All sheets of a box can be tried.
+pub const SMALL: Size = Size { fields: (0, 3), most_steps: 2, most_questions: 8 };
+/// Enough fields for facts to meet in many ways.
+pub const MIDDLE: Size = Size { fields: (3, 6), most_steps: 3, most_questions: 12 };
+/// Few fields with many questions and large gaps.
+pub const TALL: Size = Size { fields: (1, 2), most_steps: MOST_STEPS, most_questions: MOST_QUESTIONS as u32 };
+/// Many fields; few questions, so that the walk stays short.
+pub const WIDE: Size = Size { fields: (9, MOST_FIELDS), most_steps: 40, most_questions: 9 };
+
+pub const SIZES: [Size; 4] = [SMALL, MIDDLE, TALL, WIDE];
+
+/// A question in its simplified form: the larger field left, steps on one side only, none left against zero.
+fn question(random: &mut Random, n: u32, most_steps: u32) -> [u32; 2] {
+    let left = random.between(1, n);
+    let right = random.below(left);
+    let steps = if random.one_in(2) { random.below(most_steps.min(2) + 1) } else { random.below(most_steps + 1) };
+    let steps_left = right != 0 && random.one_in(2);
+    let (left_steps, right_steps) = if steps_left { (steps, 0) } else { (0, steps) };
+    [Term { field: left, steps: left_steps }.word(), Term { field: right, steps: right_steps }.word()]
+}
+
+/// The numbers that the order of questions compares.
+pub fn rank(pair: &[u32; 2]) -> (u32, u32, u32, u32) {
+    let [left, right] = pair.map(Term::of_word);
+    (left.field, right.field, left.steps, right.steps)
+}
+
+/// The list words of questions in their order, doubles left out.
+pub fn in_order(mut questions: Vec<[u32; 2]>) -> Vec<u32> {
+    questions.sort_by_key(rank);
+    questions.dedup();
+    questions.concat()
+}
+
+/// A survey that opening accepts.
+pub fn survey(random: &mut Random, size: Size) -> Survey {
+    let n = random.between(size.fields.0, size.fields.1);
+    let wanted = if n == 0 { 0 } else { random.below(size.most_questions + 1) };
+    let list = in_order((0..wanted).map(|_| question(random, n, size.most_steps)).collect());
+    Survey { n, list }
+}
+
+/// A survey that opening mostly refuses.
+pub fn faulty_survey(random: &mut Random) -> Survey {
+    let size = *random.pick(&SIZES);
+    let Survey { mut n, mut list } = survey(random, size);
+    match random.below(9) {
+        0 => n = *random.pick(&[17, 18, 31, 32, u32::MAX]),
+        1 => list.push(random.word() % 600),
+        2 => {
+            let pairs = *random.pick(&[20, 21, 22, 40]);
+            n = 16;
+            list = in_order((0..4 * pairs).map(|_| question(random, n, MOST_STEPS)).collect());
+            list.truncate(2 * pairs as usize);
+        }
+        3 => n = random.below(n + 1),
+        4 if !list.is_empty() => {
+            let at = random.place(list.len());
+            list[at] = *random.pick(&[8160, 8192, 8191, 31, 17, 16, u32::MAX, list[at] + 32 * 255, list[at] + 32 * 256]);
+        }
+        5 if list.len() > 3 => {
+            let at = 2 * random.place(list.len() / 2 - 1);
+            list.swap(at, at + 2);
+            list.swap(at + 1, at + 3);
+        }
+        6 if !list.is_empty() => {
+            let at = 2 * random.place(list.len() / 2);
+            let pair = [list[at], list[at + 1]];
+            match random.below(4) {
+                0 => list.swap(at, at + 1),
+                1 => list.splice(at..at, pair).for_each(drop),
+                2 => {
+                    list[at] += 32;
+                    list[at + 1] += 32;
+                }
+                _ => list[at + 1] = list[at],
+            }
+        }
+        7 if !list.is_empty() => {
+            let at = random.place(list.len());
+            list[at] ^= 1 << random.below(15);
+        }
+        _ => list = (0..random.below(50)).map(|_| random.word() % 70).collect(),
+    }
+    Survey { n, list }
+}
+
+/// A pair of term words that simplifies to the given question, or is always or never.
+fn equation(random: &mut Random, survey: &Survey) -> [u32; 2] {
+    if survey.list.is_empty() || random.one_in(10) {
+        let field = random.below(survey.n + 1);
+        let steps = if random.one_in(2) { 2 } else { MOST_STEPS + 1 };
+        let [a, b] = [0; 2].map(|_| Term { field, steps: random.below(steps) });
+        return [a.word(), b.word()];
+    }
+    let at = 2 * random.place(survey.list.len() / 2);
+    let (mut a, mut b) = (Term::of_word(survey.list[at]), Term::of_word(survey.list[at + 1]));
+    if random.one_in(2) {
+        std::mem::swap(&mut a, &mut b);
+    }
+    let spare = MOST_STEPS - a.steps.max(b.steps);
+    let common = if random.one_in(2) { 0 } else { random.below(spare + 1) };
+    a.steps += common;
+    b.steps += common;
+    [a.word(), b.word()]
+}
+
+/// A rule table with the given number of rows, which build accepts if there is room.
+pub fn rule_of(random: &mut Random, survey: &Survey, rows: usize) -> Vec<u32> {
+    let mut table: Vec<[u32; 4]> = Vec::with_capacity(rows);
+    for own in 0..rows as u32 {
+        // Later rows mostly combine recent ones, so that the last row says something about many of them.
+        let combine = own > 0 && (own + 1 == rows as u32 || !random.one_in(3));
+        let mut earlier = || if random.one_in(3) { random.below(own) } else { own - 1 - random.below(own.min(4)) };
+        let row = if combine {
+            let (a, b, c) = (earlier(), earlier(), earlier());
+            match random.below(5) {
+                0 => [3, a, 0, 0],
+                1 | 2 => [4, a, b, 0],
+                _ => [5, a, b, c],
+            }
+        } else if random.one_in(12) {
+            [random.below(2), 0, 0, 0]
+        } else {
+            let [a, b] = equation(random, survey);
+            [2, a, b, 0]
+        };
+        table.push(row);
+    }
+    table.concat()
+}
+
+/// A rule table whose last row depends on many questions in a tangled way, so that its diagram is large: exclusive "or"s of
+/// earlier rows, two rows each, over the equations of all questions.
+pub fn tangled_rule(random: &mut Random, survey: &Survey, rows: usize) -> Vec<u32> {
+    let mut table: Vec<[u32; 4]> = survey.list.chunks(2).map(|pair| [2, pair[0], pair[1], 0]).collect();
+    while table.len() + 2 <= rows {
+        let own = table.len() as u32;
+        let (a, b) = (random.below(own), own - 1 - random.below(own.min(3)));
+        match random.below(3) {
+            0 => table.push([4, a, b, 0]),
+            _ => table.extend([[3, a, 0, 0], [5, b, own, a]]),
+        }
+    }
+    table.concat()
+}
+
+/// A rule table that build accepts if there is room.
+pub fn rule(random: &mut Random, survey: &Survey) -> Vec<u32> {
+    let rows = match random.below(12) {
+        0 => 1,
+        1 => random.between(40, MOST_ROWS as u32),
+        _ => random.between(1, 24),
+    };
+    rule_of(random, survey, rows as usize)
+}
+
+/// A rule table that build mostly refuses.
+pub fn faulty_rule(random: &mut Random, survey: &Survey) -> Vec<u32> {
+    let mut words = rule(random, survey);
+    let row = 4 * random.place(words.len() / 4);
+    match random.below(12) {
+        0 => words.clear(),
+        1 => words.truncate(words.len() - random.between(1, 3) as usize),
+        2 => {
+            let length = *random.pick(&[1028, 1032, 1025, 2048]);
+            words.resize(length, 0);
+        }
+        3 => words[row] = *random.pick(&[6, 7, 255, 256, u32::MAX]),
+        4 => words[row + 3] ^= random.between(1, 9),
+        5 => words[row + 2] ^= random.between(1, 9),
+        6 => words[row..row + 4].copy_from_slice(&[3, (row / 4) as u32 + random.below(3), 0, 0]),
+        7 => {
+            let column = random.between(1, 3) as usize;
+            let own = (row / 4) as u32;
+            words[row..row + 4].copy_from_slice(&[5, own / 2, own / 3, own / 4]);
+            words[row + column] = *random.pick(&[own, own + 1, u32::MAX]);
+        }
+        8 => {
+            let [a, b] = equation(random, survey);
+            words[row..row + 4].copy_from_slice(&[2, a, b, 0]);
+            let column = random.between(1, 2) as usize;
+            words[row + column] = *random.pick(&[survey.n + 1, 17, 31, 8192, 8160, u32::MAX, a + 8192]);
+        }
+        9 | 10 => {
+            let [a, b] = [0; 2].map(|_| Term { field: random.below(survey.n + 1), steps: random.below(6) });
+            words[row..row + 4].copy_from_slice(&[2, a.word(), b.word(), 0]);
+        }
+        _ => {
+            for _ in 0..random.between(1, 3) {
+                let at = random.place(words.len());
+                words[at] ^= 1 << random.below(12);
+            }
+        }
+    }
+    words
+}
+
+/// A handle: mostly one that the store has, sometimes one that it hasn't.
+pub fn handle(random: &mut Random, used: u32, known: &[u32]) -> u32 {
+    match random.below(20) {
+        0 => *random.pick(&[used.wrapping_add(2), used.wrapping_add(3), u32::MAX, u32::MAX - 1, 4098]),
+        1..=4 => random.below(used % 5000 + FIRST_ENTRY),
+        _ => *random.pick(known),
+    }
+}
+
+/// A sheet to read: mostly of the right length, with counts at which the answers change.
+pub fn sheet(random: &mut Random, survey: &Survey) -> Vec<u16> {
+    let length = match random.below(12) {
+        0 => random.below(20),
+        1 => survey.n + 1,
+        _ => survey.n.min(100),
+    };
+    let steps = survey.list.iter().map(|word| word / 32).max().unwrap_or(0);
+    let largest = *random.pick(&[1, 2, steps + 1, 17 * (steps + 1)]);
+    (0..length)
+        .map(|_| if random.one_in(40) { 65_535 - random.below(3) as u16 } else { random.below(largest + 1) as u16 })
+        .collect()
+}
+
+/// The number of words of a store: with room for no, few, many or more than all entries, and with words left over.
+pub fn store_length(random: &mut Random, survey: &Survey) -> usize {
+    let room = match random.below(10) {
+        0 => random.below(3),
+        1 | 2 => random.below(12),
+        3 => 4096 + random.below(3),
+        _ => random.between(60, 400),
+    };
+    HEADING + survey.list.len() + 3 * room as usize + random.place(3)
+}
+
+/// A sound store that no operation need have written: its entries are any that the soundness conditions allow.
+pub fn sound_store(random: &mut Random, survey: &Survey, most_entries: u32) -> Vec<u32> {
+    let q = (survey.list.len() / 2) as u32;
+    let mut entries: Vec<[u32; 3]> = Vec::new();
+    // Attempts that break a condition are dropped. Entries with late questions come first, so that others can name them.
+    for attempt in 0..2 * most_entries {
+        if q == 0 || entries.len() as u32 == most_entries {
+            break;
+        }
+        let earliest = q - (q * attempt / (2 * most_entries)).min(q - 1);
+        let question = if random.one_in(2) { earliest } else { random.between(1, q) };
+        let own = entries.len() as u32 + FIRST_ENTRY;
+        let entry = [question, random.below(own), random.below(own)];
+        let later = |handle: u32| handle < FIRST_ENTRY || entries[(handle - FIRST_ENTRY) as usize][0] > question;
+        if entry[1] != entry[2] && later(entry[1]) && later(entry[2]) && !entries.contains(&entry) {
+            entries.push(entry);
+        }
+    }
+    let mut store = vec![survey.n, q, entries.len() as u32];
+    store.extend(&survey.list);
+    store.extend(entries.as_flattened());
+    let spare = if random.one_in(3) { random.below(3) } else { random.below(900) };
+    store.extend(std::iter::repeat_n(0, spare as usize));
+    store
+}
+
+/// The faults that a store can have, each breaking one soundness condition if the store has what it takes.
+pub const STORE_FAULTS: u32 = 17;
+
+/// Puts a fault into a sound store.
+pub fn damage(random: &mut Random, store: &mut Vec<u32>, fault: u32) {
+    let (n, q, used) = (store[0], store[1] as usize, store[2] as usize);
+    let entries = HEADING + 2 * q;
+    let unused = entries + 3 * used;
+    let entry = |random: &mut Random| entries + 3 * random.place(used);
+    match fault {
+        0 => store[0] = *random.pick(&[17, 31, u32::MAX, n.saturating_sub(1), n / 2]),
+        1 => store[1] = *random.pick(&[21, q as u32 + 1, u32::MAX, 1 << 31, (1 << 31) + 1, q.saturating_sub(1) as u32]),
+        2 => store[2] = *random.pick(&[used as u32 + 1, 4097, u32::MAX, 1_431_655_766, 2_863_311_531, used as u32 / 2]),
+        3 => store.truncate(random.place(entries + 1)),
+        4 => store.truncate(unused.saturating_sub(random.between(1, 3) as usize)),
+        5 if q > 0 => store[HEADING + random.place(2 * q)] ^= 1 << random.below(14),
+        6 if q > 0 => store[HEADING + random.place(2 * q)] = *random.pick(&[8192, 31, n + 1, u32::MAX]),
+        7 if q > 0 => {
+            let at = HEADING + 2 * random.place(q);
+            store.swap(at, at + 1);
+        }
+        8 if q > 1 => {
+            let at = HEADING + 2 * random.place(q - 1);
+            if random.one_in(2) {
+                store.swap(at, at + 2);
+                store.swap(at + 1, at + 3);
+            } else {
+                store.copy_within(at..at + 2, at + 2);
+            }
+        }
+        9 if used > 0 => store[entry(random)] = *random.pick(&[0, q as u32 + 1, u32::MAX]),
+        10 if used > 0 => {
+            let at = entry(random);
+            store[at + 2] = store[at + 1];
+        }
+        11 if used > 0 => {
+            let at = entry(random);
+            let own = ((at - entries) / 3) as u32 + FIRST_ENTRY;
+            store[at + random.between(1, 2) as usize] = *random.pick(&[own, own + 1, u32::MAX, u32::MAX - 1]);
+        }
+        12 if used > 1 => {
+            // The last entry names one that asks the same question, or an earlier one.
+            let (named, last) = (random.place(used - 1), entries + 3 * (used - 1));
+            store[last] = store[entries + 3 * named] + random.below(2) * u32::from(store[entries + 3 * named] < q as u32);
+            store[last + random.between(1, 2) as usize] = named as u32 + FIRST_ENTRY;
+        }
+        13 if used > 1 => {
+            let (from, to) = (entry(random), unused - 3);
+            store.copy_within(from..from + 3, to);
+        }
+        14 if unused < store.len() => {
+            let at = unused + random.place(store.len() - unused);
+            store[at] = 1 << random.below(32);
+        }
+        15 if unused < store.len() => {
+            let last = store.len() - 1;
+            store[last] = random.word() | 1;
+        }
+        _ if !store.is_empty() => {
+            for _ in 0..random.between(1, 3) {
+                let at = random.place(store.len().min(unused + 3));
+                let bits = if random.one_in(4) { 32 } else { 4 };
+                store[at] ^= 1 << random.below(bits);
+            }
+        }
+        _ => {}
+    }
+}
