@@ -103,4 +103,3 @@ impl Call {
         Outcome { answer, store: store.back(), sheet: sheet.back(), words: words.back(), kept_within }
     }
 }
-

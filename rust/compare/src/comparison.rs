@@ -65,7 +65,9 @@ impl Comparison {
     fn compare(&mut self, by: &str, call: &Call, store: &[u32], outcome: &Outcome, operations: &dyn Operations) {
         let expected = call.make(operations, store);
         if *outcome != expected {
-            self.differ(&format!("{by} differs\n  call {call:?}\n  store {store:?}\n  library {outcome:?}\n  other {expected:?}"));
+            self.differ(&format!(
+                "{by} differs\n  call {call:?}\n  store {store:?}\n  library {outcome:?}\n  other {expected:?}"
+            ));
         }
     }
 
@@ -203,9 +205,8 @@ fn affordable(call: &Call, store: &[u32]) -> Affordable {
     match listed_questions(store) {
         // Such a store isn't sound, which they find at once.
         None => Affordable { bounds: true, counting: true },
-        Some((n, questions)) => Affordable {
-            bounds: bounds_are_affordable(n, &questions),
-            counting: counting_is_affordable(n, &questions),
-        },
+        Some((n, questions)) => {
+            Affordable { bounds: bounds_are_affordable(n, &questions), counting: counting_is_affordable(n, &questions) }
+        }
     }
 }

@@ -77,7 +77,8 @@ pub fn faulty_survey(random: &mut Random) -> Survey {
         3 => n = random.below(n + 1),
         4 if !list.is_empty() => {
             let at = random.place(list.len());
-            list[at] = *random.pick(&[8160, 8192, 8191, 31, 17, 16, u32::MAX, list[at] + 32 * 255, list[at] + 32 * 256]);
+            list[at] =
+                *random.pick(&[8160, 8192, 8191, 31, 17, 16, u32::MAX, list[at] + 32 * 255, list[at] + 32 * 256]);
         }
         5 if list.len() > 3 => {
             let at = 2 * random.place(list.len() / 2 - 1);
@@ -151,17 +152,16 @@ pub fn rule_of(random: &mut Random, survey: &Survey, rows: usize) -> Vec<u32> {
     table.concat()
 }
 
-/// A rule table whose last row depends on many questions in a tangled way, so that its diagram is large: exclusive "or"s of
-/// earlier rows, two rows each, over the equations of all questions.
+/// A rule table whose diagram is large: whether an odd number of random pairs of questions is true. The list isn't empty.
 pub fn tangled_rule(random: &mut Random, survey: &Survey, rows: usize) -> Vec<u32> {
     let mut table: Vec<[u32; 4]> = survey.list.chunks(2).map(|pair| [2, pair[0], pair[1], 0]).collect();
-    while table.len() + 2 <= rows {
+    let questions = table.len() as u32;
+    let mut odd = random.below(questions);
+    while table.len() + 3 <= rows {
         let own = table.len() as u32;
-        let (a, b) = (random.below(own), own - 1 - random.below(own.min(3)));
-        match random.below(3) {
-            0 => table.push([4, a, b, 0]),
-            _ => table.extend([[3, a, 0, 0], [5, b, own, a]]),
-        }
+        let pair = [4, random.below(questions), random.below(questions), 0];
+        table.extend([pair, [3, own, 0, 0], [5, odd, own + 1, own]]);
+        odd = own + 2;
     }
     table.concat()
 }
@@ -320,7 +320,8 @@ pub fn damage(random: &mut Random, store: &mut Vec<u32>, fault: u32) {
         12 if used > 1 => {
             // The last entry names one that asks the same question, or an earlier one.
             let (named, last) = (random.place(used - 1), entries + 3 * (used - 1));
-            store[last] = store[entries + 3 * named] + random.below(2) * u32::from(store[entries + 3 * named] < q as u32);
+            store[last] =
+                store[entries + 3 * named] + random.below(2) * u32::from(store[entries + 3 * named] < q as u32);
             store[last + random.between(1, 2) as usize] = named as u32 + FIRST_ENTRY;
         }
         13 if used > 1 => {

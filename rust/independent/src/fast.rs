@@ -131,13 +131,13 @@ impl Bounds {
     fn least_counts(&self, noes: &[Question]) -> Counts {
         let mut counts = [0; SIZE];
         let mut bounds = self.clone();
-        for left in 1..self.size {
-            let mut count = Question { left, right: 0, gap: -bounds.most[0][left] };
-            while bounds.decide(noes, count) == Some(false) {
-                count.gap += 1;
+        for (field, count) in counts.iter_mut().enumerate().take(self.size).skip(1) {
+            let mut fixed = Question { left: field, right: 0, gap: -bounds.most[0][field] };
+            while bounds.decide(noes, fixed) == Some(false) {
+                fixed.gap += 1;
             }
-            counts[left] = count.gap;
-            bounds = bounds.with(count);
+            *count = fixed.gap;
+            bounds = bounds.with(fixed);
         }
         counts
     }
@@ -152,7 +152,7 @@ fn checked_list(n: u32, words: &[u32]) -> Result<Vec<Question>, u32> {
     if n > MOST_FIELDS {
         return Err(TOO_MANY_FIELDS);
     }
-    if words.len() % 2 != 0 {
+    if !words.len().is_multiple_of(2) {
         return Err(ODD_LIST);
     }
     if words.len() / 2 > MOST_QUESTIONS {
@@ -246,8 +246,7 @@ fn checked_index(entries: &[Entry], q: usize) -> Option<HashMap<u64, u32>> {
         if question < 1 || question > q as u32 || yes >= own || no >= own || yes == no {
             return None;
         }
-        let asks_later =
-            |handle: u32| handle < FIRST_ENTRY || entries[(handle - FIRST_ENTRY) as usize][0] > question;
+        let asks_later = |handle: u32| handle < FIRST_ENTRY || entries[(handle - FIRST_ENTRY) as usize][0] > question;
         if !asks_later(yes) || !asks_later(no) || index.insert(key(*entry), own).is_some() {
             return None;
         }
@@ -290,7 +289,13 @@ impl Choice {
     /// What remains once a question is answered. The handles name entries of `source`.
     fn answered(self, source: &[Entry], question: u32, yes: bool) -> Choice {
         let follow = |handle: u32| match handle.checked_sub(FIRST_ENTRY).map(|i| source[i as usize]) {
-            Some([asked, on_yes, on_no]) if asked == question => if yes { on_yes } else { on_no },
+            Some([asked, on_yes, on_no]) if asked == question => {
+                if yes {
+                    on_yes
+                } else {
+                    on_no
+                }
+            }
             _ => handle,
         };
         Choice::new(follow(self.test), follow(self.then), follow(self.otherwise))
@@ -348,7 +353,10 @@ impl Walk<'_> {
 
 /// Adds the finished diagram of a choice to the store whose contents are given. The choice's handles name entries of `source`, or of
 /// the store itself if there is none.
-fn add(store: &mut [u32], plan: impl FnOnce(&Contents) -> Result<(Choice, Option<Vec<Entry>>), u32>) -> Result<u32, u32> {
+fn add(
+    store: &mut [u32],
+    plan: impl FnOnce(&Contents) -> Result<(Choice, Option<Vec<Entry>>), u32>,
+) -> Result<u32, u32> {
     let contents = Contents::of(store)?;
     let (choice, source) = plan(&contents)?;
     let bounds = Bounds::new(contents.n);
@@ -395,7 +403,7 @@ fn checked_rule(words: &[u32], contents: &Contents) -> Result<Vec<Row>, u32> {
     if words.is_empty() {
         return Err(NO_ROWS);
     }
-    if words.len() % 4 != 0 {
+    if !words.len().is_multiple_of(4) {
         return Err(BROKEN_ROW);
     }
     if words.len() / 4 > MOST_ROWS {
@@ -577,7 +585,13 @@ impl LeastSearch<'_> {
                 // The least counts answer the question one way, and are the least on that side too.
                 let answer = question.holds(least);
                 for side in [answer, !answer] {
-                    self.search_side(question, side, if side { yes } else { no }, bounds, (side == answer).then_some(least));
+                    self.search_side(
+                        question,
+                        side,
+                        if side { yes } else { no },
+                        bounds,
+                        (side == answer).then_some(least),
+                    );
                 }
             }
         }

@@ -25,7 +25,14 @@ enum Method {
 pub struct Plain {
     method: Method,
     /// The combinations of the list asked for last: a run of calls asks for one list many times.
-    last: RefCell<Option<(u32, Vec<Question>, Rc<Vec<Truths>>)>>,
+    last: RefCell<Option<Possible>>,
+}
+
+/// A list, and its possible combinations of answers.
+struct Possible {
+    n: u32,
+    questions: Vec<Question>,
+    truths: Rc<Vec<Truths>>,
 }
 
 impl Plain {
@@ -40,16 +47,15 @@ impl Plain {
     }
 
     fn possible(&self, n: u32, questions: &[Question]) -> Rc<Vec<Truths>> {
-        if let Some((last_n, last_questions, truths)) = &*self.last.borrow() {
-            if *last_n == n && last_questions == questions {
-                return Rc::clone(truths);
-            }
+        if let Some(last) = self.last.borrow().as_ref().filter(|last| last.n == n && last.questions == questions) {
+            return Rc::clone(&last.truths);
         }
         let truths = Rc::new(match self.method {
             Method::Bounds => possible_by_bounds(n, questions),
             Method::Counting => possible_by_counting(n, questions),
         });
-        *self.last.borrow_mut() = Some((n, questions.to_vec(), Rc::clone(&truths)));
+        let last = Possible { n, questions: questions.to_vec(), truths: Rc::clone(&truths) };
+        *self.last.borrow_mut() = Some(last);
         truths
     }
 }
@@ -152,9 +158,9 @@ const UNBOUNDED: i64 = 1 << 40;
 fn difference_bounds(n: u32, facts: &[Fact]) -> Option<Vec<Vec<i64>>> {
     let size = n as usize + 1;
     let mut most = vec![vec![UNBOUNDED; size]; size];
-    for field in 0..size {
-        most[0][field] = 0;
-        most[field][field] = 0;
+    most[0] = vec![0; size];
+    for (field, row) in most.iter_mut().enumerate() {
+        row[field] = 0;
     }
     for (question, _) in facts.iter().filter(|(_, yes)| *yes) {
         let (left, right) = (question.0.field as usize, question.1.field as usize);
@@ -242,7 +248,7 @@ fn checked_list(n: u32, words: &[u32]) -> Result<Vec<Question>, u32> {
     if n > MOST_FIELDS {
         return Err(TOO_MANY_FIELDS);
     }
-    if words.len() % 2 != 0 {
+    if !words.len().is_multiple_of(2) {
         return Err(ODD_LIST);
     }
     if words.len() / 2 > MOST_QUESTIONS {
@@ -420,7 +426,7 @@ fn checked_rule(words: &[u32], n: u32, questions: &[Question]) -> Result<Vec<Row
     if words.is_empty() {
         return Err(NO_ROWS);
     }
-    if words.len() % 4 != 0 {
+    if !words.len().is_multiple_of(4) {
         return Err(BROKEN_ROW);
     }
     if words.len() / 4 > MOST_ROWS {

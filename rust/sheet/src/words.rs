@@ -7,7 +7,9 @@
 #[derive(Clone, Copy, Debug, PartialEq, Eq)]
 #[repr(C)]
 pub struct Answer {
+    /// 0 if the call was accepted, else the refusal's number.
     pub number: u32,
+    /// What the call answers; 0 if it names no result or was refused.
     pub result: u32,
 }
 
@@ -15,10 +17,15 @@ pub struct Answer {
 #[derive(Clone, Copy, Debug, PartialEq, Eq)]
 #[repr(C)]
 pub struct SimplifyAnswer {
+    /// 0 if the call was accepted, else the refusal's number.
     pub number: u32,
+    /// 0 never, 1 always, 2 a question.
     pub result: u32,
+    /// The question's left word.
     pub left: u32,
+    /// The question's right word.
     pub right: u32,
+    /// Right steps minus left steps.
     pub gap: i32,
 }
 
@@ -36,13 +43,8 @@ mod c {
         pub fn sheet_verdict(store: *const u32, store_len: usize, a: u32) -> Answer;
         pub fn sheet_example(store: *const u32, store_len: usize, a: u32, sheet: *mut u16, sheet_len: usize) -> Answer;
         pub fn sheet_read(store: *const u32, store_len: usize, a: u32, sheet: *const u16, sheet_len: usize) -> Answer;
-        pub fn sheet_write_back(
-            store: *const u32,
-            store_len: usize,
-            a: u32,
-            rule: *mut u32,
-            rule_len: usize,
-        ) -> Answer;
+        pub fn sheet_write_back(store: *const u32, store_len: usize, a: u32, rule: *mut u32, rule_len: usize)
+            -> Answer;
     }
 }
 

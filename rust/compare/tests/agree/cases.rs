@@ -14,9 +14,8 @@ fn opened(comparison: &mut Comparison, n: u32, list: &[u32], length: usize) -> V
 
 fn answer(comparison: &mut Comparison, outcome: &Outcome, number: u32, result: u32) {
     let given = outcome.answer;
-    comparison.test(EXACT, (given.number, given.result) == (number, result), || {
-        format!("{given:?}, not {number} {result}")
-    });
+    comparison
+        .test(EXACT, (given.number, given.result) == (number, result), || format!("{given:?}, not {number} {result}"));
 }
 
 fn equal<T: PartialEq + std::fmt::Debug>(comparison: &mut Comparison, left: T, right: T) {

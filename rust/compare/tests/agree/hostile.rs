@@ -46,7 +46,8 @@ fn simplify_one(comparison: &mut Comparison, random: &mut Random, a: u32, b: u32
     let simplified = match answer.result {
         2 => {
             let [left, right] = [answer.left, answer.right].map(Term::of_word);
-            let by_gap = i64::from(counts[left.field as usize]) == i64::from(counts[right.field as usize]) + i64::from(answer.gap);
+            let by_gap = i64::from(counts[left.field as usize])
+                == i64::from(counts[right.field as usize]) + i64::from(answer.gap);
             by_gap && value(left) == value(right)
         }
         result => result == 1,

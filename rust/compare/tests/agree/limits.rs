@@ -2,7 +2,7 @@
 
 use compare::calls::Call;
 use compare::comparison::Comparison;
-use compare::generate::{self, Survey, Size};
+use compare::generate::{self, Size, Survey};
 use compare::random::Random;
 use independent::{FIRST_ENTRY, HEADING, MOST_ENTRIES, MOST_QUESTIONS, MOST_ROWS};
 
@@ -137,7 +137,8 @@ fn store_with_diagram(entries: usize) -> (Vec<u32>, u32) {
     let mut made: Vec<[u32; 3]> = Vec::new();
     for question in [20, 19, 18] {
         let handles = 0..made.len() as u32 + FIRST_ENTRY;
-        let pairs = handles.clone().flat_map(|yes| handles.clone().map(move |no| (yes, no))).filter(|(yes, no)| yes != no);
+        let pairs =
+            handles.clone().flat_map(|yes| handles.clone().map(move |no| (yes, no))).filter(|(yes, no)| yes != no);
         let wanted = entries - 63 - made.len();
         made.extend(pairs.take(wanted).map(|(yes, no)| [question, yes, no]));
     }
@@ -162,7 +163,7 @@ fn store_of(survey: &Survey, entries: &[[u32; 3]]) -> Vec<u32> {
 
 /// Twenty questions about few fields, rules of many rows: diagrams of hundreds of entries, until the store is full.
 pub fn large_diagrams(comparison: &mut Comparison, random: &mut Random, cases: u64) {
-    let dense = Size { fields: (5, 6), most_steps: 1, most_questions: 20 };
+    let dense = Size { fields: (6, 8), most_steps: 2, most_questions: 18 };
     for _ in 0..1 + cases / 100 {
         let survey = loop {
             let survey = generate::survey(random, dense);
