@@ -1,5 +1,7 @@
 //! Lists, rules, sheets and stores to try: good ones, and ones with a fault.
 
+use std::collections::HashSet;
+
 use independent::{Term, FIRST_ENTRY, HEADING, MOST_FIELDS, MOST_QUESTIONS, MOST_ROWS, MOST_STEPS};
 
 use crate::random::Random;
@@ -275,6 +277,23 @@ pub fn sound_store(random: &mut Random, survey: &Survey, most_entries: u32) -> V
     let spare = if random.one_in(3) { random.below(3) } else { random.below(900) };
     store.extend(std::iter::repeat_n(0, spare as usize));
     store
+}
+
+/// So many different entries that the soundness conditions allow for a list of q questions, without a certain one and the one
+/// with its handles exchanged. There must be as many.
+pub fn sound_entries(random: &mut Random, q: u32, count: usize, without: Option<[u32; 3]>) -> Vec<[u32; 3]> {
+    let mut entries: Vec<[u32; 3]> = Vec::new();
+    let mut known: HashSet<[u32; 3]> =
+        without.into_iter().flat_map(|[q, yes, no]| [[q, yes, no], [q, no, yes]]).collect();
+    while entries.len() < count {
+        let own = entries.len() as u32 + FIRST_ENTRY;
+        let entry = [random.between(1, q), random.below(own), random.below(own)];
+        let later = |handle: u32| handle < FIRST_ENTRY || entries[(handle - FIRST_ENTRY) as usize][0] > entry[0];
+        if entry[1] != entry[2] && later(entry[1]) && later(entry[2]) && known.insert(entry) {
+            entries.push(entry);
+        }
+    }
+    entries
 }
 
 /// The faults that a store can have, each breaking one soundness condition if the store has what it takes.

@@ -258,7 +258,19 @@ fn checked_index(entries: &[Entry], q: usize) -> Option<HashMap<u64, u32>> {
 // The walk that adds a finished diagram
 // ---------------------------------------------------------------------------------------------------------------------
 
-/// What the answers so far leave of a meaning: if `test` then `then`, else `otherwise`, all of them handles.
+/// A meaning that a walk finds out about by answering questions.
+trait Meaning {
+    /// What the answers so far leave of the meaning.
+    type Rest;
+
+    /// The leaf that the rest is, if that is known.
+    fn leaf(&self, rest: &Self::Rest) -> Option<u32>;
+
+    /// What remains once a question, by its number from 1, is answered too.
+    fn answered(&self, rest: &Self::Rest, question: u32, yes: bool) -> Self::Rest;
+}
+
+/// A choice between handles of a store: if `test` then `then`, else `otherwise`.
 #[derive(Clone, Copy)]
 struct Choice {
     test: u32,
@@ -267,6 +279,7 @@ struct Choice {
 }
 
 impl Choice {
+    /// The choice, or what it comes to if the test is a leaf.
     fn new(test: u32, then: u32, otherwise: u32) -> Choice {
         match test {
             NEVER => Choice { test: otherwise, then: ALWAYS, otherwise: NEVER },
@@ -274,38 +287,37 @@ impl Choice {
             _ => Choice { test, then, otherwise },
         }
     }
+}
 
-    /// The leaf that this choice is, if it is one.
-    fn leaf(self) -> Option<u32> {
-        if self.test < FIRST_ENTRY {
-            Some(self.test)
-        } else if self.then == self.otherwise && self.then < FIRST_ENTRY {
-            Some(self.then)
+/// The meaning of a choice by a store's entries.
+struct ByEntries<'a>(&'a [Entry]);
+
+impl Meaning for ByEntries<'_> {
+    type Rest = Choice;
+
+    fn leaf(&self, rest: &Choice) -> Option<u32> {
+        if rest.test < FIRST_ENTRY {
+            Some(rest.test)
+        } else if rest.then == rest.otherwise && rest.then < FIRST_ENTRY {
+            Some(rest.then)
         } else {
             None
         }
     }
 
-    /// What remains once a question is answered. The handles name entries of `source`.
-    fn answered(self, source: &[Entry], question: u32, yes: bool) -> Choice {
-        let follow = |handle: u32| match handle.checked_sub(FIRST_ENTRY).map(|i| source[i as usize]) {
-            Some([asked, on_yes, on_no]) if asked == question => {
-                if yes {
-                    on_yes
-                } else {
-                    on_no
-                }
-            }
+    fn answered(&self, rest: &Choice, question: u32, yes: bool) -> Choice {
+        let follow = |handle: u32| match handle.checked_sub(FIRST_ENTRY).map(|i| self.0[i as usize]) {
+            Some([asked, on_yes, _]) if asked == question && yes => on_yes,
+            Some([asked, _, on_no]) if asked == question => on_no,
             _ => handle,
         };
-        Choice::new(follow(self.test), follow(self.then), follow(self.otherwise))
+        Choice::new(follow(rest.test), follow(rest.then), follow(rest.otherwise))
     }
 }
 
-struct Walk<'a> {
+struct Walk<'a, M> {
     questions: &'a [Question],
-    /// The entries that the handles of choices name.
-    source: &'a [Entry],
+    meaning: M,
     /// All entries, old and new.
     index: HashMap<u64, u32>,
     /// The questions answered no on the path.
@@ -315,20 +327,20 @@ struct Walk<'a> {
     added: Vec<Entry>,
 }
 
-impl Walk<'_> {
-    /// Adds the finished diagram of a choice under the facts of the path, question `next` being the first not asked yet.
-    fn finish(&mut self, next: usize, choice: Choice, bounds: &Bounds) -> Result<u32, u32> {
-        if let Some(leaf) = choice.leaf() {
+impl<M: Meaning> Walk<'_, M> {
+    /// Adds the finished diagram of what is left of the meaning under the facts of the path. Question `next` is the first not asked yet.
+    fn finish(&mut self, next: usize, rest: &M::Rest, bounds: &Bounds) -> Result<u32, u32> {
+        if let Some(leaf) = self.meaning.leaf(rest) {
             return Ok(leaf);
         }
         let question = self.questions[next];
         let number = next as u32 + 1;
         if let Some(answer) = bounds.decide(&self.noes, question) {
-            return self.finish(next + 1, choice.answered(self.source, number, answer), bounds);
+            return self.finish(next + 1, &self.meaning.answered(rest, number, answer), bounds);
         }
-        let yes = self.finish(next + 1, choice.answered(self.source, number, true), &bounds.with(question))?;
+        let yes = self.finish(next + 1, &self.meaning.answered(rest, number, true), &bounds.with(question))?;
         self.noes.push(question);
-        let no = self.finish(next + 1, choice.answered(self.source, number, false), bounds)?;
+        let no = self.finish(next + 1, &self.meaning.answered(rest, number, false), bounds)?;
         self.noes.pop();
         if yes == no {
             return Ok(yes);
@@ -351,38 +363,37 @@ impl Walk<'_> {
     }
 }
 
-/// Adds the finished diagram of a choice to the store whose contents are given. The choice's handles name entries of `source`, or of
-/// the store itself if there is none.
-fn add(
-    store: &mut [u32],
-    plan: impl FnOnce(&Contents) -> Result<(Choice, Option<Vec<Entry>>), u32>,
-) -> Result<u32, u32> {
-    let contents = Contents::of(store)?;
-    let (choice, source) = plan(&contents)?;
-    let bounds = Bounds::new(contents.n);
+/// The entries that the finished diagram of a meaning adds to a store, and the diagram's handle.
+fn finished<M: Meaning>(contents: &mut Contents, meaning: M, whole: &M::Rest) -> Result<(Vec<Entry>, u32), u32> {
     let mut walk = Walk {
         questions: &contents.questions,
-        source: source.as_deref().unwrap_or(contents.entries),
-        index: contents.index,
+        meaning,
+        index: std::mem::take(&mut contents.index),
         noes: Vec::with_capacity(MOST_QUESTIONS),
         used: contents.entries.len(),
         room: contents.room,
         added: Vec::new(),
     };
-    let handle = walk.finish(0, choice, &bounds)?;
-    let (used, added) = (walk.used, walk.added);
-    let start = HEADING + 2 * contents.questions.len() + 3 * used;
-    store[2] = (used + added.len()) as u32;
-    store[start..start + 3 * added.len()].copy_from_slice(added.as_flattened());
-    Ok(handle)
+    let handle = walk.finish(0, whole, &Bounds::new(contents.n))?;
+    Ok((walk.added, handle))
 }
 
-/// Adds the finished diagram of a choice between handles of the store.
-fn add_choice(store: &mut [u32], handles: &[u32], test: u32, then: u32, otherwise: u32) -> Result<u32, u32> {
-    add(store, |contents| {
-        contents.check_handles(handles)?;
-        Ok((Choice::new(test, then, otherwise), None))
-    })
+/// Writes new entries after the used ones.
+fn append(store: &mut [u32], added: &[Entry]) {
+    let (q, used) = (store[1] as usize, store[2] as usize);
+    let start = HEADING + 2 * q + 3 * used;
+    store[start..start + 3 * added.len()].copy_from_slice(added.as_flattened());
+    store[2] = (used + added.len()) as u32;
+}
+
+/// Adds the finished diagram of a choice between handles, of which the given ones come from the caller.
+fn add_choice(store: &mut [u32], given: &[u32], test: u32, then: u32, otherwise: u32) -> Result<u32, u32> {
+    let mut contents = Contents::of(store)?;
+    contents.check_handles(given)?;
+    let meaning = ByEntries(contents.entries);
+    let (added, handle) = finished(&mut contents, meaning, &Choice::new(test, then, otherwise))?;
+    append(store, &added);
+    Ok(handle)
 }
 
 // ---------------------------------------------------------------------------------------------------------------------
@@ -441,87 +452,96 @@ fn checked_equation(a: Term, b: Term, n: u32, numbers: &HashMap<[u32; 2], u32>) 
     }
 }
 
-/// A plain decision diagram over the questions, which knows nothing of what they mean.
-#[derive(Default)]
-struct PlainDiagram {
-    entries: Vec<Entry>,
-    index: HashMap<Entry, u32>,
-    chosen: HashMap<Entry, u32>,
+/// What is known of a row's truth.
+#[derive(Clone, Copy, PartialEq, Eq)]
+enum Known {
+    Never,
+    Always,
+    Not,
 }
 
-impl PlainDiagram {
-    fn entry(&mut self, question: u32, yes: u32, no: u32) -> u32 {
-        if yes == no {
-            return yes;
-        }
-        let entries = &mut self.entries;
-        *self.index.entry([question, yes, no]).or_insert_with(|| {
-            entries.push([question, yes, no]);
-            entries.len() as u32 - 1 + FIRST_ENTRY
-        })
-    }
+/// The truth of each row, as far as the answers so far tell.
+type RowTruths = [Known; MOST_ROWS];
 
-    fn question_of(&self, handle: u32) -> Option<u32> {
-        handle.checked_sub(FIRST_ENTRY).map(|i| self.entries[i as usize][0])
-    }
-
-    /// If `test` then `then`, else `otherwise`.
-    fn choose(&mut self, test: u32, then: u32, otherwise: u32) -> u32 {
-        match (test, then, otherwise) {
-            (ALWAYS, _, _) => return then,
-            (NEVER, _, _) => return otherwise,
-            (_, ALWAYS, NEVER) => return test,
-            _ if then == otherwise => return then,
-            _ => {}
+impl Row {
+    /// What the truths of the lower rows tell of this one. A question is not known.
+    fn known(&self, truths: &RowTruths) -> Known {
+        match *self {
+            Row::Leaf(NEVER) => Known::Never,
+            Row::Leaf(_) => Known::Always,
+            Row::Question(_) => Known::Not,
+            Row::Not(a) => match truths[a] {
+                Known::Never => Known::Always,
+                Known::Always => Known::Never,
+                Known::Not => Known::Not,
+            },
+            Row::And(a, b) => match (truths[a], truths[b]) {
+                (Known::Never, _) | (_, Known::Never) => Known::Never,
+                (Known::Always, Known::Always) => Known::Always,
+                _ => Known::Not,
+            },
+            Row::If(a, b, c) => match truths[a] {
+                Known::Always => truths[b],
+                Known::Never => truths[c],
+                Known::Not if truths[b] == truths[c] => truths[b],
+                Known::Not => Known::Not,
+            },
         }
-        if let Some(known) = self.chosen.get(&[test, then, otherwise]) {
-            return *known;
-        }
-        let first = [test, then, otherwise].into_iter().filter_map(|handle| self.question_of(handle)).min();
-        let question = first.expect("the test is an entry");
-        let choice = Choice { test, then, otherwise };
-        let part = |answer: bool| choice.answered(&self.entries, question, answer);
-        let (on_yes, on_no) = (part(true), part(false));
-        let yes = self.choose(on_yes.test, on_yes.then, on_yes.otherwise);
-        let no = self.choose(on_no.test, on_no.then, on_no.otherwise);
-        let handle = self.entry(question, yes, no);
-        self.chosen.insert([test, then, otherwise], handle);
-        handle
-    }
-
-    /// The last row's diagram.
-    fn of_rule(&mut self, rows: &[Row]) -> u32 {
-        let mut handles: Vec<u32> = Vec::with_capacity(rows.len());
-        let needed = needed_rows(rows);
-        for (row, needed) in rows.iter().zip(needed) {
-            handles.push(match *row {
-                _ if !needed => NEVER,
-                Row::Leaf(leaf) => leaf,
-                Row::Question(number) => self.entry(number, ALWAYS, NEVER),
-                Row::Not(a) => self.choose(handles[a], NEVER, ALWAYS),
-                Row::And(a, b) => self.choose(handles[a], handles[b], NEVER),
-                Row::If(a, b, c) => self.choose(handles[a], handles[b], handles[c]),
-            });
-        }
-        handles[rows.len() - 1]
     }
 }
 
-/// Which rows the last row goes back to.
-fn needed_rows(rows: &[Row]) -> Vec<bool> {
-    let mut needed = vec![false; rows.len()];
-    needed[rows.len() - 1] = true;
-    for i in (0..rows.len()).rev() {
-        if needed[i] {
-            match rows[i] {
-                Row::Leaf(_) | Row::Question(_) => {}
-                Row::Not(a) => needed[a] = true,
-                Row::And(a, b) => [a, b].into_iter().for_each(|row| needed[row] = true),
-                Row::If(a, b, c) => [a, b, c].into_iter().for_each(|row| needed[row] = true),
+/// The meaning of a rule table's last row.
+struct ByRows {
+    rows: Vec<Row>,
+    /// For each question number the first row that asks it: lower rows stay as they are when it is answered.
+    first_asking: [usize; MOST_QUESTIONS + 1],
+}
+
+impl ByRows {
+    fn new(rows: Vec<Row>) -> ByRows {
+        let mut first_asking = [rows.len(); MOST_QUESTIONS + 1];
+        for (i, row) in rows.iter().enumerate().rev() {
+            if let Row::Question(number) = row {
+                first_asking[*number as usize] = i;
             }
         }
+        ByRows { rows, first_asking }
     }
-    needed
+
+    fn unanswered(&self) -> RowTruths {
+        let mut truths = [Known::Not; MOST_ROWS];
+        for (i, row) in self.rows.iter().enumerate() {
+            truths[i] = row.known(&truths);
+        }
+        truths
+    }
+}
+
+impl Meaning for ByRows {
+    type Rest = RowTruths;
+
+    fn leaf(&self, rest: &RowTruths) -> Option<u32> {
+        match rest[self.rows.len() - 1] {
+            Known::Never => Some(NEVER),
+            Known::Always => Some(ALWAYS),
+            Known::Not => None,
+        }
+    }
+
+    fn answered(&self, rest: &RowTruths, question: u32, yes: bool) -> RowTruths {
+        let mut truths = *rest;
+        let first = self.first_asking[question as usize];
+        for (i, row) in self.rows.iter().enumerate().skip(first) {
+            if truths[i] == Known::Not {
+                truths[i] = match row {
+                    Row::Question(asked) if *asked == question && yes => Known::Always,
+                    Row::Question(asked) if *asked == question => Known::Never,
+                    _ => row.known(&truths),
+                };
+            }
+        }
+        truths
+    }
 }
 
 // ---------------------------------------------------------------------------------------------------------------------
@@ -628,12 +648,13 @@ fn open(n: u32, list: &[u32], store: &mut [u32]) -> Result<u32, u32> {
 }
 
 fn build(store: &mut [u32], rule: &[u32]) -> Result<u32, u32> {
-    add(store, |contents| {
-        let rows = checked_rule(rule, contents)?;
-        let mut diagram = PlainDiagram::default();
-        let root = diagram.of_rule(&rows);
-        Ok((Choice::new(root, ALWAYS, NEVER), Some(diagram.entries)))
-    })
+    let mut contents = Contents::of(store)?;
+    let rows = checked_rule(rule, &contents)?;
+    let meaning = ByRows::new(rows);
+    let whole = meaning.unanswered();
+    let (added, handle) = finished(&mut contents, meaning, &whole)?;
+    append(store, &added);
+    Ok(handle)
 }
 
 fn verdict(store: &[u32], a: u32) -> Result<u32, u32> {

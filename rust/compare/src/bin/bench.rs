@@ -8,7 +8,7 @@ use std::hint::black_box;
 use std::process::{Command, Stdio};
 use std::time::{Duration, Instant};
 
-use compare::generate::{in_order, sound_store, tangled_rule, Survey};
+use compare::generate::{in_order, sound_entries, tangled_rule, Survey};
 use compare::library::Library;
 use compare::random::Random;
 use independent::{Fast, Operations, Term, HEADING, MOST_ENTRIES};
@@ -161,19 +161,11 @@ fn opened(survey: &Survey, room: usize) -> Vec<u32> {
 
 /// A store of 20 questions about one field with as many entries as wanted, and room for all.
 fn filled(entries: usize) -> Vec<u32> {
-    let survey = Survey { n: 1, list: (0..20).flat_map(|steps| question(1, 0, steps)).collect() };
-    let mut random = Random::new(1);
-    let mut store = loop {
-        // Some attempts at an entry are dropped, so more are asked for than are wanted.
-        let store = sound_store(&mut random, &survey, 2 * entries as u32 + 100);
-        if store[2] as usize >= entries {
-            break store;
-        }
-    };
-    store[2] = entries as u32;
-    store.truncate(HEADING + survey.list.len() + 3 * entries);
-    store.resize(HEADING + survey.list.len() + 3 * MOST_ENTRIES, 0);
-    assert_eq!(Fast.verdict(&store, 0).number, 0);
+    let list: Vec<u32> = (0..20).flat_map(|steps| question(1, 0, steps)).collect();
+    let mut store = vec![1, 20, entries as u32];
+    store.extend(&list);
+    store.extend(sound_entries(&mut Random::new(1), 20, entries, None).as_flattened());
+    store.resize(HEADING + list.len() + 3 * MOST_ENTRIES, 0);
     store
 }
 

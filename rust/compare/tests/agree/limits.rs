@@ -63,8 +63,9 @@ fn rows(comparison: &mut Comparison, random: &mut Random) {
 fn entries(comparison: &mut Comparison, random: &mut Random) {
     let survey = one_field(20);
     let first = |survey: &Survey| Call::Build { rule: vec![2, survey.list[0], survey.list[1], 0] };
+    // Neither the entry that the rule needs is there, nor the one that its negation needs.
     let entry_of_first = [1, 1, 0];
-    let mut store = full_store(random, &survey, MOST_ENTRIES - 1, entry_of_first);
+    let mut store = store_of(&survey, &generate::sound_entries(random, 20, MOST_ENTRIES - 1, Some(entry_of_first)));
     store.extend([0; 3]);
     let full = expect(comparison, "the last entry", &first(&survey), &store, 0);
     comparison.test("a limit", full[2] == MOST_ENTRIES as u32, || format!("used {}", full[2]));
@@ -98,24 +99,6 @@ fn entries(comparison: &mut Comparison, random: &mut Random) {
     let last = longer.len() - 1;
     longer[last] = 1;
     expect(comparison, "a word beyond all entries", &Call::Verdict(0), &longer, 22);
-}
-
-/// A sound store with the given number of entries, without a certain one and without its negation.
-fn full_store(random: &mut Random, survey: &Survey, entries: usize, without: [u32; 3]) -> Vec<u32> {
-    let q = (survey.list.len() / 2) as u32;
-    let mut made: Vec<[u32; 3]> = Vec::new();
-    let mut known = std::collections::HashSet::new();
-    while made.len() < entries {
-        let question = random.between(1, q);
-        let own = made.len() as u32 + FIRST_ENTRY;
-        let entry = [question, random.below(own), random.below(own)];
-        let later = |handle: u32| handle < FIRST_ENTRY || made[(handle - FIRST_ENTRY) as usize][0] > question;
-        let wanted = entry != without && entry != [without[0], without[2], without[1]];
-        if entry[1] != entry[2] && later(entry[1]) && later(entry[2]) && wanted && known.insert(entry) {
-            made.push(entry);
-        }
-    }
-    store_of(survey, &made)
 }
 
 /// A diagram of 127 entries is written back in 256 rows, one of 128 entries not.
