@@ -2,7 +2,8 @@
 
 use std::collections::BTreeMap;
 
-use independent::{refusal, smallest_box, Fast, Operations, Plain, Question, SimplifyAnswer, Term, HEADING};
+use independent::{refusal, smallest_box, Fast, Operations, Plain, Question, SimplifyAnswer, Term};
+use independent::{MOST_ENTRIES, MOST_FIELDS, MOST_QUESTIONS};
 
 use crate::calls::{Call, Outcome};
 use crate::library::Library;
@@ -45,30 +46,23 @@ impl Comparison {
         if !outcome.kept_within {
             self.differ(&format!("{call:?} on {store:?} wrote outside of what was lent"));
         }
-        self.compare("the fast implementation", call, store, &outcome, &Fast);
         let affordable = affordable(call, store);
+        let mut others = vec![("the fast implementation", call.make(&Fast, store))];
         if affordable.bounds {
             self.compared_by_bounds += 1;
-            let plain = std::mem::replace(&mut self.by_bounds, Plain::by_bounds());
-            self.compare("the plain implementation", call, store, &outcome, &plain);
-            self.by_bounds = plain;
+            others.push(("the plain implementation", call.make(&self.by_bounds, store)));
         }
         if affordable.counting {
             self.compared_by_counting += 1;
-            let plain = std::mem::replace(&mut self.by_counting, Plain::by_counting());
-            self.compare("trying all counts", call, store, &outcome, &plain);
-            self.by_counting = plain;
+            others.push(("trying all counts", call.make(&self.by_counting, store)));
+        }
+        for (by, expected) in others {
+            if outcome != expected {
+                let calls = format!("call {call:?}\n  store {store:?}");
+                self.differ(&format!("{by}\n  {calls}\n  library {outcome:?}\n  other {expected:?}"));
+            }
         }
         outcome
-    }
-
-    fn compare(&mut self, by: &str, call: &Call, store: &[u32], outcome: &Outcome, operations: &dyn Operations) {
-        let expected = call.make(operations, store);
-        if *outcome != expected {
-            self.differ(&format!(
-                "{by} differs\n  call {call:?}\n  store {store:?}\n  library {outcome:?}\n  other {expected:?}"
-            ));
-        }
     }
 
     /// Simplifies with the library and with both other implementations.
@@ -156,17 +150,18 @@ const NUMBERS: [(&str, &[u32]); 10] = [
     ("write back", &[0, 22, 23, 41, 53]),
 ];
 
-/// The questions of a store, if its heading leaves a list to look at.
-fn listed_questions(store: &[u32]) -> Option<(u32, Vec<Question>)> {
-    let [n, q, _, rest @ ..] = store else { return None };
-    let list = rest.get(..2 * usize::try_from(*q).ok().filter(|q| *q <= 20)?)?;
-    let questions = list.chunks(2).map(|pair| (Term::of_word(pair[0]), Term::of_word(pair[1]))).collect();
-    (*n <= 16).then_some((*n, questions))
-}
-
 /// The questions of list words.
 pub fn questions_of(list: &[u32]) -> Vec<Question> {
     list.chunks(2).map(|pair| (Term::of_word(pair[0]), Term::of_word(pair[1]))).collect()
+}
+
+/// The fields and questions of a store, if its heading leaves a list to look at.
+fn survey_of(store: &[u32]) -> Option<(u32, Vec<Question>)> {
+    let [n, q, _, rest @ ..] = store else { return None };
+    if *n > MOST_FIELDS || *q > MOST_QUESTIONS as u32 {
+        return None;
+    }
+    Some((*n, questions_of(rest.get(..2 * *q as usize)?)))
 }
 
 /// A number that the possible combinations of answers don't exceed. Of the questions about the same two fields at most one is true.
@@ -199,10 +194,10 @@ fn affordable(call: &Call, store: &[u32]) -> Affordable {
     if matches!(call, Call::Open { .. }) {
         return Affordable { bounds: true, counting: true };
     }
-    if store.len() > HEADING + 1_500 && store.get(2).is_some_and(|used| *used > 500 && *used <= 4096) {
+    if store.get(2).is_some_and(|used| *used > 500 && *used <= MOST_ENTRIES as u32) {
         return Affordable { bounds: false, counting: false };
     }
-    match listed_questions(store) {
+    match survey_of(store) {
         // Such a store isn't sound, which they find at once.
         None => Affordable { bounds: true, counting: true },
         Some((n, questions)) => {

@@ -154,6 +154,26 @@ pub fn rule_of(random: &mut Random, survey: &Survey, rows: usize) -> Vec<u32> {
     table.concat()
 }
 
+/// The rule that gives nearly every question of a list a certain answer, mostly no: a long path, on which any other answer
+/// settles the rule, so that the walk is short however many questions there are.
+pub fn long_path_rule(random: &mut Random, survey: &Survey) -> Vec<u32> {
+    let mut table: Vec<[u32; 4]> = vec![[1, 0, 0, 0]];
+    let mut left_out = 4;
+    for pair in survey.list.chunks(2) {
+        if left_out > 0 && random.one_in(8) {
+            left_out -= 1;
+            continue;
+        }
+        let whole = table.len() as u32 - 1;
+        table.push([2, pair[0], pair[1], 0]);
+        if !random.one_in(5) {
+            table.push([3, whole + 1, 0, 0]);
+        }
+        table.push([4, whole, table.len() as u32 - 1, 0]);
+    }
+    table.concat()
+}
+
 /// A rule table whose diagram is large: whether an odd number of random pairs of questions is true. The list isn't empty.
 pub fn tangled_rule(random: &mut Random, survey: &Survey, rows: usize) -> Vec<u32> {
     let mut table: Vec<[u32; 4]> = survey.list.chunks(2).map(|pair| [2, pair[0], pair[1], 0]).collect();

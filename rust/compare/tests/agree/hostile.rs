@@ -4,7 +4,8 @@ use compare::calls::Call;
 use compare::comparison::Comparison;
 use compare::generate;
 use compare::random::Random;
-use independent::Term;
+use independent::refusal::NOT_SOUND;
+use independent::{Fast, Operations, Term};
 
 /// Simplify on words at the limits, on random ones, and its answer against the truth at random counts.
 pub fn simplify(comparison: &mut Comparison, random: &mut Random, cases: u64) {
@@ -109,14 +110,34 @@ pub fn sound_stores(comparison: &mut Comparison, random: &mut Random, cases: u64
     }
 }
 
+/// A store that operations have written.
+fn written_store(random: &mut Random, survey: &generate::Survey) -> Vec<u32> {
+    let mut store = vec![0; generate::store_length(random, survey)];
+    Fast.open(survey.n, &survey.list, &mut store);
+    for _ in 0..random.below(5) {
+        Fast.build(&mut store, &generate::rule(random, survey));
+    }
+    store
+}
+
 /// Stores with each soundness condition broken, and with random flips.
 pub fn damaged_stores(comparison: &mut Comparison, random: &mut Random, cases: u64) {
+    let mut refused = [false; generate::STORE_FAULTS as usize];
     for i in 0..4 * cases {
         let size = *random.pick(&generate::SIZES);
         let survey = generate::survey(random, size);
         let most_entries = *random.pick(&[3, 10, 40]);
-        let mut store = generate::sound_store(random, &survey, most_entries);
-        generate::damage(random, &mut store, (i % u64::from(generate::STORE_FAULTS)) as u32);
+        let mut store = if random.one_in(2) {
+            written_store(random, &survey)
+        } else {
+            generate::sound_store(random, &survey, most_entries)
+        };
+        let fault = i % u64::from(generate::STORE_FAULTS);
+        generate::damage(random, &mut store, fault as u32);
         every_operation(comparison, random, &survey, &store);
+        refused[fault as usize] |= comparison.call(&Call::Verdict(0), &store).answer.number == NOT_SOUND;
+    }
+    for (fault, refused) in refused.into_iter().enumerate() {
+        comparison.test("a fault that makes a store unsound", refused, || format!("fault {fault} was never refused"));
     }
 }

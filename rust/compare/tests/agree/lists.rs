@@ -2,10 +2,10 @@
 
 use compare::calls::Call;
 use compare::comparison::{bounds_are_affordable, counting_is_affordable, questions_of, Comparison};
-use compare::generate::{self, Survey};
+use compare::generate::{self, Size, Survey};
 use compare::ledger::Ledger;
 use compare::random::Random;
-use independent::{possible_by_bounds, possible_by_counting, smallest_box, HEADING};
+use independent::{possible_by_bounds, possible_by_counting, smallest_box, HEADING, MOST_FIELDS, MOST_STEPS};
 
 /// That difference bounds and trying all counts find the same combinations of answers.
 pub fn possible_answers(comparison: &mut Comparison, random: &mut Random, cases: u64) {
@@ -90,6 +90,38 @@ fn test_bound(comparison: &mut Comparison, survey: &Survey, sheet: &[u16]) {
     let most = smallest_box(survey.n, &questions_of(&survey.list));
     let within = sheet.iter().all(|count| u64::from(*count) <= most);
     comparison.test("the bound on an example's counts", within, || format!("{survey:?} {sheet:?}"));
+}
+
+/// Long lists about many fields, with rules that give each question a certain answer: paths with up to twenty facts.
+pub fn long_paths(comparison: &mut Comparison, random: &mut Random, cases: u64) {
+    for _ in 0..cases {
+        let most_steps = *random.pick(&[1, 3, 30, MOST_STEPS]);
+        let survey = generate::survey(random, Size { fields: (1, MOST_FIELDS), most_steps, most_questions: 20 });
+        let open = Call::Open { n: survey.n, list: survey.list.clone() };
+        let mut store = comparison.call(&open, &vec![0; HEADING + survey.list.len() + 3 * 1_000]).store;
+        let mut handles = Vec::new();
+        for _ in 0..3 {
+            let outcome = comparison.call(&Call::Build { rule: generate::long_path_rule(random, &survey) }, &store);
+            handles.push(outcome.answer.result);
+            store = outcome.store;
+        }
+        let calls = [
+            Call::Negate(handles[0]),
+            Call::Join(handles[0], handles[1]),
+            Call::Choose(handles[0], handles[1], handles[2]),
+            Call::Choose(handles[1], 0, handles[2]),
+        ];
+        for call in calls {
+            let outcome = comparison.call(&call, &store);
+            handles.push(outcome.answer.result);
+            store = outcome.store;
+        }
+        for handle in handles {
+            comparison.call(&Call::Verdict(handle), &store);
+            let example = comparison.call(&Call::Example { handle, sheet: vec![0; survey.n as usize] }, &store);
+            comparison.call(&Call::Read { handle, sheet: example.sheet }, &store);
+        }
+    }
 }
 
 /// A formula over letters.

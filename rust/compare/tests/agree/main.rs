@@ -27,12 +27,13 @@ fn main() -> ExitCode {
 
     let mut comparison = Comparison::default();
     type Suite = fn(&mut Comparison, &mut Random, u64);
-    let suites: [(&str, Suite); 10] = [
+    let suites: [(&str, Suite); 11] = [
         ("document 01's cases", cases::document_cases),
         ("simplify", hostile::simplify),
         ("the two ways to find possible answers", lists::possible_answers),
         ("opening", hostile::opening),
         ("lists of calls", lists::lists_of_calls),
+        ("long paths", lists::long_paths),
         ("laws of Boolean algebra", lists::laws),
         ("sound stores written by hand", hostile::sound_stores),
         ("damaged stores", hostile::damaged_stores),
