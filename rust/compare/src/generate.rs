@@ -68,48 +68,53 @@ pub fn faulty_survey(random: &mut Random) -> Survey {
     let size = *random.pick(&SIZES);
     let Survey { mut n, mut list } = survey(random, size);
     match random.below(9) {
+        // Too many fields, or too few for the list.
         0 => n = *random.pick(&[17, 18, 31, 32, u32::MAX]),
-        1 => list.push(random.word() % 600),
-        2 => {
+        1 => n = random.below(n + 1),
+        // An odd number of words.
+        2 => list.push(random.word() % 600),
+        // Twenty questions or more, all good.
+        3 => {
             let pairs = *random.pick(&[20, 21, 22, 40]);
-            n = 16;
+            n = MOST_FIELDS;
             list = in_order((0..4 * pairs).map(|_| question(random, n, MOST_STEPS)).collect());
             list.truncate(2 * pairs as usize);
         }
-        3 => n = random.below(n + 1),
+        // A word at or beyond the limits of fields and steps.
         4 if !list.is_empty() => {
             let at = random.place(list.len());
-            list[at] =
-                *random.pick(&[8160, 8192, 8191, 31, 17, 16, u32::MAX, list[at] + 32 * 255, list[at] + 32 * 256]);
+            let longer = [list[at] + 32 * MOST_STEPS, list[at] + 32 * (MOST_STEPS + 1)];
+            list[at] = *random.pick(&[8160, 8192, 8191, 31, 17, 16, u32::MAX, longer[0], longer[1]]);
         }
+        // Two questions exchanged.
         5 if list.len() > 3 => {
             let at = 2 * random.place(list.len() / 2 - 1);
             list.swap(at, at + 2);
             list.swap(at + 1, at + 3);
         }
+        // A question turned round, written twice, with common steps, or with two equal sides.
         6 if !list.is_empty() => {
             let at = 2 * random.place(list.len() / 2);
             let pair = [list[at], list[at + 1]];
             match random.below(4) {
                 0 => list.swap(at, at + 1),
                 1 => list.splice(at..at, pair).for_each(drop),
-                2 => {
-                    list[at] += 32;
-                    list[at + 1] += 32;
-                }
+                2 => list[at..at + 2].iter_mut().for_each(|word| *word += 32),
                 _ => list[at + 1] = list[at],
             }
         }
+        // One bit flipped.
         7 if !list.is_empty() => {
             let at = random.place(list.len());
             list[at] ^= 1 << random.below(15);
         }
+        // Any small words.
         _ => list = (0..random.below(50)).map(|_| random.word() % 70).collect(),
     }
     Survey { n, list }
 }
 
-/// A pair of term words that simplifies to the given question, or is always or never.
+/// A pair of term words that simplifies to a question of the list, or to always or never.
 fn equation(random: &mut Random, survey: &Survey) -> [u32; 2] {
     if survey.list.is_empty() || random.one_in(10) {
         let field = random.below(survey.n + 1);
@@ -202,33 +207,38 @@ pub fn rule(random: &mut Random, survey: &Survey) -> Vec<u32> {
 pub fn faulty_rule(random: &mut Random, survey: &Survey) -> Vec<u32> {
     let mut words = rule(random, survey);
     let row = 4 * random.place(words.len() / 4);
+    let own = (row / 4) as u32;
     match random.below(12) {
+        // No words, words that aren't whole rows, too many rows.
         0 => words.clear(),
         1 => words.truncate(words.len() - random.between(1, 3) as usize),
         2 => {
             let length = *random.pick(&[1028, 1032, 1025, 2048]);
             words.resize(length, 0);
         }
+        // An unknown kind, or something in columns that may be unused.
         3 => words[row] = *random.pick(&[6, 7, 255, 256, u32::MAX]),
         4 => words[row + 3] ^= random.between(1, 9),
         5 => words[row + 2] ^= random.between(1, 9),
-        6 => words[row..row + 4].copy_from_slice(&[3, (row / 4) as u32 + random.below(3), 0, 0]),
+        // A reference that isn't lower.
+        6 => words[row..row + 4].copy_from_slice(&[3, own + random.below(3), 0, 0]),
         7 => {
-            let column = random.between(1, 3) as usize;
-            let own = (row / 4) as u32;
             words[row..row + 4].copy_from_slice(&[5, own / 2, own / 3, own / 4]);
-            words[row + column] = *random.pick(&[own, own + 1, u32::MAX]);
+            words[row + random.between(1, 3) as usize] = *random.pick(&[own, own + 1, u32::MAX]);
         }
+        // A term at or beyond the limits.
         8 => {
             let [a, b] = equation(random, survey);
             words[row..row + 4].copy_from_slice(&[2, a, b, 0]);
             let column = random.between(1, 2) as usize;
             words[row + column] = *random.pick(&[survey.n + 1, 17, 31, 8192, 8160, u32::MAX, a + 8192]);
         }
+        // An equation that is hardly on the list.
         9 | 10 => {
             let [a, b] = [0; 2].map(|_| Term { field: random.below(survey.n + 1), steps: random.below(6) });
             words[row..row + 4].copy_from_slice(&[2, a.word(), b.word(), 0]);
         }
+        // Bits flipped anywhere.
         _ => {
             for _ in 0..random.between(1, 3) {
                 let at = random.place(words.len());
@@ -273,72 +283,113 @@ pub fn store_length(random: &mut Random, survey: &Survey) -> usize {
     HEADING + survey.list.len() + 3 * room as usize + random.place(3)
 }
 
-/// A sound store that no operation need have written: its entries are any that the soundness conditions allow.
-pub fn sound_store(random: &mut Random, survey: &Survey, most_entries: u32) -> Vec<u32> {
-    let q = (survey.list.len() / 2) as u32;
-    let mut entries: Vec<[u32; 3]> = Vec::new();
-    // Attempts that break a condition are dropped. Entries with late questions come first, so that others can name them.
-    for attempt in 0..2 * most_entries {
-        if q == 0 || entries.len() as u32 == most_entries {
-            break;
-        }
-        let earliest = q - (q * attempt / (2 * most_entries)).min(q - 1);
-        let question = if random.one_in(2) { earliest } else { random.between(1, q) };
-        let own = entries.len() as u32 + FIRST_ENTRY;
-        let entry = [question, random.below(own), random.below(own)];
-        let later = |handle: u32| handle < FIRST_ENTRY || entries[(handle - FIRST_ENTRY) as usize][0] > question;
-        if entry[1] != entry[2] && later(entry[1]) && later(entry[2]) && !entries.contains(&entry) {
-            entries.push(entry);
-        }
-    }
-    let mut store = vec![survey.n, q, entries.len() as u32];
-    store.extend(&survey.list);
-    store.extend(entries.as_flattened());
-    let spare = if random.one_in(3) { random.below(3) } else { random.below(900) };
-    store.extend(std::iter::repeat_n(0, spare as usize));
-    store
-}
-
-/// So many different entries that the soundness conditions allow for a list of q questions, without a certain one and the one
-/// with its handles exchanged. There must be as many.
-pub fn sound_entries(random: &mut Random, q: u32, count: usize, without: Option<[u32; 3]>) -> Vec<[u32; 3]> {
+/// Up to so many different entries that the soundness conditions allow for a list of q questions; fewer if there are hardly as many.
+/// A certain entry can be left out, and with it the one that has its handles exchanged.
+pub fn sound_entries(random: &mut Random, q: u32, most: usize, without: Option<[u32; 3]>) -> Vec<[u32; 3]> {
     let mut entries: Vec<[u32; 3]> = Vec::new();
     let mut known: HashSet<[u32; 3]> =
         without.into_iter().flat_map(|[q, yes, no]| [[q, yes, no], [q, no, yes]]).collect();
-    while entries.len() < count {
-        let own = entries.len() as u32 + FIRST_ENTRY;
-        let entry = [random.between(1, q), random.below(own), random.below(own)];
-        let later = |handle: u32| handle < FIRST_ENTRY || entries[(handle - FIRST_ENTRY) as usize][0] > entry[0];
-        if entry[1] != entry[2] && later(entry[1]) && later(entry[2]) && known.insert(entry) {
-            entries.push(entry);
+    // Attempts that break a condition are dropped.
+    for _ in 0..40 * most {
+        if q == 0 || entries.len() == most {
+            break;
+        }
+        let end = entries.len() as u32 + FIRST_ENTRY;
+        let (yes, no) = (random.below(end), random.below(end));
+        let asked = |handle: u32| handle.checked_sub(FIRST_ENTRY).map_or(q + 1, |i| entries[i as usize][0]);
+        // A question a little before those of the two handles, so that many are left for entries to come.
+        let before = asked(yes).min(asked(no)) - 1;
+        if before > 0 && yes != no {
+            let entry = [before - random.below(before.min(3)), yes, no];
+            if known.insert(entry) {
+                entries.push(entry);
+            }
         }
     }
     entries
 }
 
-/// The faults that a store can have, each breaking one soundness condition if the store has what it takes.
-pub const STORE_FAULTS: u32 = 17;
+/// The words of a store with the given entries and no unused words.
+pub fn store_of(survey: &Survey, entries: &[[u32; 3]]) -> Vec<u32> {
+    let mut store = vec![survey.n, (survey.list.len() / 2) as u32, entries.len() as u32];
+    store.extend(&survey.list);
+    store.extend(entries.as_flattened());
+    store
+}
+
+/// A sound store that no operation need have written: its entries are any that the soundness conditions allow.
+pub fn sound_store(random: &mut Random, survey: &Survey, most_entries: usize) -> Vec<u32> {
+    let q = (survey.list.len() / 2) as u32;
+    let mut store = store_of(survey, &sound_entries(random, q, most_entries, None));
+    let unused = if random.one_in(3) { random.below(3) } else { random.below(900) };
+    store.resize(store.len() + unused as usize, 0);
+    store
+}
+
+/// What can be wrong with a store. Each breaks a soundness condition, if the store has what it takes and chance doesn't spare it.
+#[derive(Clone, Copy, Debug)]
+pub enum Fault {
+    Fields,
+    Questions,
+    Used,
+    CutInList,
+    CutInEntries,
+    ListBit,
+    ListTerm,
+    NotSimplified,
+    NotAscending,
+    QuestionNumber,
+    EqualHandles,
+    HandleNotLower,
+    QuestionNotLater,
+    EqualEntries,
+    UnusedWord,
+    LastWord,
+    AnyBits,
+}
+
+pub const FAULTS: [Fault; 17] = [
+    Fault::Fields,
+    Fault::Questions,
+    Fault::Used,
+    Fault::CutInList,
+    Fault::CutInEntries,
+    Fault::ListBit,
+    Fault::ListTerm,
+    Fault::NotSimplified,
+    Fault::NotAscending,
+    Fault::QuestionNumber,
+    Fault::EqualHandles,
+    Fault::HandleNotLower,
+    Fault::QuestionNotLater,
+    Fault::EqualEntries,
+    Fault::UnusedWord,
+    Fault::LastWord,
+    Fault::AnyBits,
+];
 
 /// Puts a fault into a sound store.
-pub fn damage(random: &mut Random, store: &mut Vec<u32>, fault: u32) {
-    let (n, q, used) = (store[0], store[1] as usize, store[2] as usize);
-    let entries = HEADING + 2 * q;
-    let unused = entries + 3 * used;
-    let entry = |random: &mut Random| entries + 3 * random.place(used);
+pub fn damage(random: &mut Random, store: &mut Vec<u32>, fault: Fault) {
+    let (n, q, used) = (store[0], store[1], store[2]);
+    let list = HEADING..HEADING + 2 * q as usize;
+    let entries = list.end..list.end + 3 * used as usize;
+    let list_word = |random: &mut Random| list.start + random.place(list.len());
+    let entry = |random: &mut Random| entries.start + 3 * random.place(used as usize);
     match fault {
-        0 => store[0] = *random.pick(&[17, 31, u32::MAX, n.saturating_sub(1), n / 2]),
-        1 => store[1] = *random.pick(&[21, q as u32 + 1, u32::MAX, 1 << 31, (1 << 31) + 1, q.saturating_sub(1) as u32]),
-        2 => store[2] = *random.pick(&[used as u32 + 1, 4097, u32::MAX, 1_431_655_766, 2_863_311_531, used as u32 / 2]),
-        3 => store.truncate(random.place(entries + 1)),
-        4 => store.truncate(unused.saturating_sub(random.between(1, 3) as usize)),
-        5 if q > 0 => store[HEADING + random.place(2 * q)] ^= 1 << random.below(14),
-        6 if q > 0 => store[HEADING + random.place(2 * q)] = *random.pick(&[8192, 31, n + 1, u32::MAX]),
-        7 if q > 0 => {
-            let at = HEADING + 2 * random.place(q);
+        // Some of these numbers, times three or plus a few, are small again in 32 bits.
+        Fault::Fields => store[0] = *random.pick(&[17, 31, u32::MAX, n / 2]),
+        Fault::Questions => store[1] = *random.pick(&[21, q + 1, q / 2, u32::MAX, 1 << 31, (1 << 31) + 1]),
+        Fault::Used => store[2] = *random.pick(&[used + 1, used / 2, 4097, u32::MAX, 1_431_655_766, 2_863_311_531]),
+        Fault::CutInList => store.truncate(random.place(list.end + 1)),
+        Fault::CutInEntries => store.truncate(entries.end - random.between(1, 3) as usize),
+        Fault::ListBit if q > 0 => store[list_word(random)] ^= 1 << random.below(14),
+        Fault::ListTerm if q > 0 => store[list_word(random)] = *random.pick(&[8192, 31, n + 1, u32::MAX]),
+        Fault::NotSimplified if q > 0 => {
+            let at = list.start + 2 * random.place(q as usize);
             store.swap(at, at + 1);
         }
-        8 if q > 1 => {
-            let at = HEADING + 2 * random.place(q - 1);
+        Fault::NotAscending if q > 1 => {
+            let at = list.start + 2 * random.place(q as usize - 1);
             if random.one_in(2) {
                 store.swap(at, at + 2);
                 store.swap(at + 1, at + 3);
@@ -346,42 +397,41 @@ pub fn damage(random: &mut Random, store: &mut Vec<u32>, fault: u32) {
                 store.copy_within(at..at + 2, at + 2);
             }
         }
-        9 if used > 0 => store[entry(random)] = *random.pick(&[0, q as u32 + 1, u32::MAX]),
-        10 if used > 0 => {
+        Fault::QuestionNumber if used > 0 => store[entry(random)] = *random.pick(&[0, q + 1, u32::MAX]),
+        Fault::EqualHandles if used > 0 => {
             let at = entry(random);
             store[at + 2] = store[at + 1];
         }
-        11 if used > 0 => {
+        Fault::HandleNotLower if used > 0 => {
             let at = entry(random);
-            let own = ((at - entries) / 3) as u32 + FIRST_ENTRY;
+            let own = ((at - entries.start) / 3) as u32 + FIRST_ENTRY;
             store[at + random.between(1, 2) as usize] = *random.pick(&[own, own + 1, u32::MAX, u32::MAX - 1]);
         }
-        12 if used > 1 => {
-            // The last entry names one that asks the same question, or an earlier one.
-            let (named, last) = (random.place(used - 1), entries + 3 * (used - 1));
-            store[last] =
-                store[entries + 3 * named] + random.below(2) * u32::from(store[entries + 3 * named] < q as u32);
-            store[last + random.between(1, 2) as usize] = named as u32 + FIRST_ENTRY;
+        Fault::QuestionNotLater if used > 1 => {
+            // The last entry names another one, and asks the same question or a later one.
+            let (named, last) = (random.below(used - 1), entries.end - 3);
+            let question = store[entries.start + 3 * named as usize];
+            store[last] = random.between(question, q);
+            store[last + random.between(1, 2) as usize] = named + FIRST_ENTRY;
         }
-        13 if used > 1 => {
-            let (from, to) = (entry(random), unused - 3);
-            store.copy_within(from..from + 3, to);
+        Fault::EqualEntries if used > 1 => {
+            let at = entry(random);
+            store.copy_within(at..at + 3, entries.end - 3);
         }
-        14 if unused < store.len() => {
-            let at = unused + random.place(store.len() - unused);
+        Fault::UnusedWord if entries.end < store.len() => {
+            let at = entries.end + random.place(store.len() - entries.end);
             store[at] = 1 << random.below(32);
         }
-        15 if unused < store.len() => {
+        Fault::LastWord if entries.end < store.len() => {
             let last = store.len() - 1;
             store[last] = random.word() | 1;
         }
-        _ if !store.is_empty() => {
+        _ => {
             for _ in 0..random.between(1, 3) {
-                let at = random.place(store.len().min(unused + 3));
+                let at = random.place(store.len().min(entries.end + 3));
                 let bits = if random.one_in(4) { 32 } else { 4 };
                 store[at] ^= 1 << random.below(bits);
             }
         }
-        _ => {}
     }
 }

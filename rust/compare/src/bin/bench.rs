@@ -8,7 +8,7 @@ use std::hint::black_box;
 use std::process::{Command, Stdio};
 use std::time::{Duration, Instant};
 
-use compare::generate::{in_order, sound_entries, tangled_rule, Survey};
+use compare::generate::{in_order, sound_entries, store_of, tangled_rule, Survey};
 use compare::library::Library;
 use compare::random::Random;
 use independent::{Fast, Operations, Term, HEADING, MOST_ENTRIES};
@@ -131,6 +131,11 @@ fn dense() -> Survey {
     Survey { n: 6, list: in_order(pairs.chain(zeros).collect()) }
 }
 
+/// One field against 20 numbers: walks are short, so that the entries of the store count.
+fn one_field() -> Survey {
+    Survey { n: 1, list: (0..20).flat_map(|number| question(1, 0, number)).collect() }
+}
+
 /// The rule that an odd number of the list words' questions is true.
 fn parity(list: &[u32]) -> Vec<u32> {
     let mut table: Vec<[u32; 4]> = vec![[0; 4]];
@@ -161,11 +166,10 @@ fn opened(survey: &Survey, room: usize) -> Vec<u32> {
 
 /// A store of 20 questions about one field with as many entries as wanted, and room for all.
 fn filled(entries: usize) -> Vec<u32> {
-    let list: Vec<u32> = (0..20).flat_map(|steps| question(1, 0, steps)).collect();
-    let mut store = vec![1, 20, entries as u32];
-    store.extend(&list);
-    store.extend(sound_entries(&mut Random::new(1), 20, entries, None).as_flattened());
-    store.resize(HEADING + list.len() + 3 * MOST_ENTRIES, 0);
+    let survey = one_field();
+    let mut store = store_of(&survey, &sound_entries(&mut Random::new(1), 20, entries, None));
+    assert_eq!(store[2] as usize, entries);
+    store.resize(HEADING + survey.list.len() + 3 * MOST_ENTRIES, 0);
     store
 }
 
@@ -309,8 +313,7 @@ fn growth_rows() -> Vec<Row> {
     }
     for entries in [0, 256, 1024, MOST_ENTRIES - 40] {
         rows.push(row(ENTRIES, format!("build parity of 20 questions, {entries} entries"), move || {
-            let list: Vec<u32> = (0..20).flat_map(|steps| question(1, 0, steps)).collect();
-            let rule = parity(&list);
+            let rule = parity(&one_field().list);
             changing(filled(entries), move |operations, store| operations.build(store, &rule).number)
         }));
     }

@@ -2,7 +2,7 @@
 
 use compare::calls::Call;
 use compare::comparison::Comparison;
-use compare::generate;
+use compare::generate::{self, FAULTS};
 use compare::random::Random;
 use independent::refusal::NOT_SOUND;
 use independent::{Fast, Operations, Term};
@@ -122,8 +122,8 @@ fn written_store(random: &mut Random, survey: &generate::Survey) -> Vec<u32> {
 
 /// Stores with each soundness condition broken, and with random flips.
 pub fn damaged_stores(comparison: &mut Comparison, random: &mut Random, cases: u64) {
-    let mut refused = [false; generate::STORE_FAULTS as usize];
-    for i in 0..4 * cases {
+    let mut refused = [false; FAULTS.len()];
+    for i in 0..4 * cases as usize {
         let size = *random.pick(&generate::SIZES);
         let survey = generate::survey(random, size);
         let most_entries = *random.pick(&[3, 10, 40]);
@@ -132,12 +132,12 @@ pub fn damaged_stores(comparison: &mut Comparison, random: &mut Random, cases: u
         } else {
             generate::sound_store(random, &survey, most_entries)
         };
-        let fault = i % u64::from(generate::STORE_FAULTS);
-        generate::damage(random, &mut store, fault as u32);
+        let fault = i % FAULTS.len();
+        generate::damage(random, &mut store, FAULTS[fault]);
         every_operation(comparison, random, &survey, &store);
-        refused[fault as usize] |= comparison.call(&Call::Verdict(0), &store).answer.number == NOT_SOUND;
+        refused[fault] |= comparison.call(&Call::Verdict(0), &store).answer.number == NOT_SOUND;
     }
-    for (fault, refused) in refused.into_iter().enumerate() {
-        comparison.test("a fault that makes a store unsound", refused, || format!("fault {fault} was never refused"));
+    for (fault, refused) in FAULTS.into_iter().zip(refused) {
+        comparison.test("a fault that makes a store unsound", refused, || format!("{fault:?} was never refused"));
     }
 }

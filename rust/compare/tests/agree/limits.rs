@@ -2,7 +2,7 @@
 
 use compare::calls::Call;
 use compare::comparison::Comparison;
-use compare::generate::{self, Size, Survey};
+use compare::generate::{self, store_of, Size, Survey};
 use compare::random::Random;
 use independent::{FIRST_ENTRY, HEADING, MOST_ENTRIES, MOST_QUESTIONS, MOST_ROWS};
 
@@ -134,14 +134,6 @@ fn store_with_diagram(entries: usize) -> (Vec<u32>, u32) {
         row = (first..made.len()).map(handle_of).collect();
     }
     (store_of(&one_field(20), &made), row[0])
-}
-
-/// The words of a store with the given entries and no unused words.
-fn store_of(survey: &Survey, entries: &[[u32; 3]]) -> Vec<u32> {
-    let mut store = vec![survey.n, (survey.list.len() / 2) as u32, entries.len() as u32];
-    store.extend(&survey.list);
-    store.extend(entries.as_flattened());
-    store
 }
 
 /// Twenty questions about few fields, rules of many rows: diagrams of hundreds of entries, until the store is full.
