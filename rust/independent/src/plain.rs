@@ -123,7 +123,7 @@ fn truths_of(questions: &[Question], counts: &[u64]) -> Truths {
     truths
 }
 
-/// The combinations of answers that fit together, found question by question by [`fits`].
+/// The combinations of answers that fit together, found question by question by `fits`.
 pub fn possible_by_bounds(n: u32, questions: &[Question]) -> Vec<Truths> {
     let mut found = vec![0];
     for asked in 1..=questions.len() {

@@ -5,7 +5,8 @@
 //! [`Handle`] exactly if they agree on every sheet.
 //!
 //! The work is done by a library that is proved to do what it promises; this crate gives it Rust's types. What C's callers have to
-//! see to (that lent memory is there, is as long as they say, and doesn't overlap) can't go wrong here.
+//! see to (that lent memory is there, is as long as they say, and doesn't overlap) can't go wrong here. The library keeps nothing between
+//! calls, so stores can be used from several threads; `include/sheet.h` says how much stack a call takes.
 //!
 //! ```
 //! use sheet::{Field, Rule, Store, Verdict, ZERO};

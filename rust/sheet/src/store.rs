@@ -152,6 +152,9 @@ impl Store {
     }
 
     /// Adds a rule's diagram.
+    ///
+    /// The time grows with the combinations of answers that sheets can give to the list's questions, up to the last question of the
+    /// rule. With twenty questions about many fields there can be a million of them.
     pub fn build(&mut self, rule: &Rule) -> Result<Handle, Refusal> {
         self.build_table(&RuleTable::from(rule))
     }

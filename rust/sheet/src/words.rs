@@ -2,6 +2,23 @@
 //!
 //! Every call is safe on any words whatever: the library is proved for all of them, and refuses what it can't work with. What the
 //! words and numbers mean stands at [`Store`](crate::Store), [`RuleTable`](crate::RuleTable) and [`Refusal`](crate::Refusal).
+//!
+//! ```
+//! use sheet::words;
+//!
+//! // Three fields, the questions 2 = 1, 3 = 1, 3 = 2, room for four entries; then the rule 3 = 2.
+//! let mut store = [0; 21];
+//! assert_eq!(words::open(3, &[2, 1, 3, 1, 3, 2], &mut store).number, 0);
+//! let answer = words::build(&mut store, &[2, 3, 2, 0]);
+//! assert_eq!((answer.number, answer.result), (0, 5));
+//! ```
+//!
+//! Memory that overlaps what a call writes is refused by the compiler, here a list inside of the store:
+//!
+//! ```compile_fail,E0502
+//! let mut store = vec![0; 20];
+//! sheet::words::open(1, &store[3..5], &mut store);
+//! ```
 
 /// An answer: number 0 and a result, or a refusal's number and 0.
 #[derive(Clone, Copy, Debug, PartialEq, Eq)]
