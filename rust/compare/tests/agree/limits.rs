@@ -136,35 +136,46 @@ fn store_with_diagram(entries: usize) -> (Vec<u32>, u32) {
     (store_of(&one_field(20), &made), row[0])
 }
 
-/// Twenty questions about few fields, rules of many rows: diagrams of hundreds of entries, until the store is full.
+/// Many questions about few fields, rules of many rows: diagrams of hundreds of entries, in stores that become full.
 pub fn large_diagrams(comparison: &mut Comparison, random: &mut Random, cases: u64) {
-    let dense = Size { fields: (6, 8), most_steps: 2, most_questions: 18 };
-    for _ in 0..1 + cases / 100 {
-        let survey = loop {
-            let survey = generate::survey(random, dense);
-            if survey.list.len() >= 2 * 14 {
-                break survey;
-            }
-        };
-        let mut store = open(comparison, &survey, *random.pick(&[300, 1000, MOST_ENTRIES]));
-        let mut known = vec![0, 1];
-        for _ in 0..12 {
-            let rows = random.between(60, MOST_ROWS as u32) as usize;
-            let call = match random.below(5) {
-                0 => Call::Negate(*random.pick(&known)),
-                1 => Call::Join(*random.pick(&known), *random.pick(&known)),
-                2 => Call::Choose(*random.pick(&known), *random.pick(&known), *random.pick(&known)),
-                _ => Call::Build { rule: generate::tangled_rule(random, &survey, rows) },
-            };
-            let outcome = comparison.call(&call, &store);
-            if outcome.answer.number == 0 {
-                known.push(outcome.answer.result);
-            }
-            store = outcome.store;
-            let handle = *random.pick(&known);
-            comparison.call(&Call::Verdict(handle), &store);
-            comparison.call(&Call::Example { handle, sheet: vec![0; survey.n as usize] }, &store);
-            comparison.call(&Call::WriteBack { handle, rule: vec![0; 1024] }, &store);
+    fill(comparison, random, MOST_ENTRIES, 100);
+    for _ in 0..cases / 100 {
+        let room = *random.pick(&[300, 1000, MOST_ENTRIES]);
+        fill(comparison, random, room, 12);
+    }
+}
+
+/// A list of many questions, which are about so few fields that there are some thousand combinations of answers at most.
+fn dense_survey(random: &mut Random) -> Survey {
+    loop {
+        let survey = generate::survey(random, Size { fields: (6, 8), most_steps: 2, most_questions: 18 });
+        if survey.list.len() >= 2 * 14 {
+            return survey;
         }
+    }
+}
+
+/// Makes so many calls that add large diagrams, as long as there is room for them.
+fn fill(comparison: &mut Comparison, random: &mut Random, room: usize, most_calls: usize) {
+    let survey = dense_survey(random);
+    let mut store = open(comparison, &survey, room);
+    let mut known = vec![0, 1];
+    for _ in 0..most_calls {
+        let rows = random.between(60, MOST_ROWS as u32) as usize;
+        let call = match random.below(5) {
+            0 => Call::Negate(*random.pick(&known)),
+            1 => Call::Join(*random.pick(&known), *random.pick(&known)),
+            2 => Call::Choose(*random.pick(&known), *random.pick(&known), *random.pick(&known)),
+            _ => Call::Build { rule: generate::tangled_rule(random, &survey, rows) },
+        };
+        let outcome = comparison.call(&call, &store);
+        store = outcome.store;
+        if outcome.answer.number == 0 {
+            known.push(outcome.answer.result);
+        }
+        let handle = *random.pick(&known);
+        comparison.call(&Call::Verdict(handle), &store);
+        comparison.call(&Call::Example { handle, sheet: vec![0; survey.n as usize] }, &store);
+        comparison.call(&Call::WriteBack { handle, rule: vec![0; 1024] }, &store);
     }
 }
