@@ -179,6 +179,18 @@ pub fn long_path_rule(random: &mut Random, survey: &Survey) -> Vec<u32> {
     table.concat()
 }
 
+/// The rule that an odd number of the list words' questions is true.
+pub fn parity_rule(list: &[u32]) -> Vec<u32> {
+    let mut table: Vec<[u32; 4]> = vec![[0; 4]];
+    let mut odd = 0;
+    for pair in list.chunks(2) {
+        let own = table.len() as u32;
+        table.extend([[2, pair[0], pair[1], 0], [3, odd, 0, 0], [5, own, own + 1, odd]]);
+        odd = own + 2;
+    }
+    table.concat()
+}
+
 /// A rule table whose diagram is large: whether an odd number of random pairs of questions is true. The list isn't empty.
 pub fn tangled_rule(random: &mut Random, survey: &Survey, rows: usize) -> Vec<u32> {
     let mut table: Vec<[u32; 4]> = survey.list.chunks(2).map(|pair| [2, pair[0], pair[1], 0]).collect();

@@ -8,7 +8,7 @@ use std::hint::black_box;
 use std::process::{Command, Stdio};
 use std::time::{Duration, Instant};
 
-use compare::generate::{in_order, sound_entries, store_of, tangled_rule, Survey};
+use compare::generate::{in_order, parity_rule, sound_entries, store_of, tangled_rule, Survey};
 use compare::library::Library;
 use compare::random::Random;
 use independent::{Fast, Operations, Term, HEADING, MOST_ENTRIES};
@@ -136,18 +136,6 @@ fn one_field() -> Survey {
     Survey { n: 1, list: (0..20).flat_map(|number| question(1, 0, number)).collect() }
 }
 
-/// The rule that an odd number of the list words' questions is true.
-fn parity(list: &[u32]) -> Vec<u32> {
-    let mut table: Vec<[u32; 4]> = vec![[0; 4]];
-    let mut odd = 0;
-    for pair in list.chunks(2) {
-        let own = table.len() as u32;
-        table.extend([[2, pair[0], pair[1], 0], [3, odd, 0, 0], [5, own, own + 1, odd]]);
-        odd = own + 2;
-    }
-    table.concat()
-}
-
 /// The rule that all of the list words' questions are true.
 fn all_of(list: &[u32]) -> Vec<u32> {
     let mut table: Vec<[u32; 4]> = vec![[1, 0, 0, 0]];
@@ -266,12 +254,14 @@ fn build_rows() -> Vec<Row> {
             building(wide(), all_of(&list[list.len() - 2 * count..]))
         }));
     }
-    rows.push(row(LARGE, "six fields, parity of 20 questions", || building(dense(), parity(&dense().list))));
+    rows.push(row(LARGE, "six fields, parity of 20 questions", || building(dense(), parity_rule(&dense().list))));
     rows.push(row(LARGE, "six fields, 20 questions, 200 tangled rows", || {
         building(dense(), tangled_rule(&mut Random::new(7), &dense(), 200))
     }));
-    rows.push(row(LARGE, "16 fields, parity of 20 questions", || building(wide(), parity(&wide().list))));
-    rows.push(row(LARGE, "16 fields in a chain, parity of 20 questions", || building(chain(), parity(&chain().list))));
+    rows.push(row(LARGE, "16 fields, parity of 20 questions", || building(wide(), parity_rule(&wide().list))));
+    rows.push(row(LARGE, "16 fields in a chain, parity of 20 questions", || {
+        building(chain(), parity_rule(&chain().list))
+    }));
     rows
 }
 
@@ -302,7 +292,7 @@ fn growth_rows() -> Vec<Row> {
         rows.push(row(QUESTIONS, format!("q = {count}"), move || {
             let Survey { n, mut list } = wide();
             list.truncate(2 * count);
-            let rule = parity(&list);
+            let rule = parity_rule(&list);
             building(Survey { n, list }, rule)
         }));
     }
@@ -313,7 +303,7 @@ fn growth_rows() -> Vec<Row> {
     }
     for entries in [0, 256, 1024, MOST_ENTRIES - 40] {
         rows.push(row(ENTRIES, format!("build parity of 20 questions, {entries} entries"), move || {
-            let rule = parity(&one_field().list);
+            let rule = parity_rule(&one_field().list);
             changing(filled(entries), move |operations, store| operations.build(store, &rule).number)
         }));
     }

@@ -4,7 +4,7 @@ use compare::calls::Call;
 use compare::comparison::Comparison;
 use compare::generate::{self, store_of, Size, Survey};
 use compare::random::Random;
-use independent::{FIRST_ENTRY, HEADING, MOST_ENTRIES, MOST_QUESTIONS, MOST_ROWS};
+use independent::{FIRST_ENTRY, HEADING, MOST_ENTRIES, MOST_FIELDS, MOST_QUESTIONS, MOST_ROWS};
 
 /// One field against `questions` numbers: every walk is short, however many entries the store has.
 fn one_field(questions: u32) -> Survey {
@@ -143,6 +143,21 @@ pub fn large_diagrams(comparison: &mut Comparison, random: &mut Random, cases: u
         let room = *random.pick(&[300, 1000, MOST_ENTRIES]);
         fill(comparison, random, room, 12);
     }
+    for _ in 0..1 + cases / 1000 {
+        long_walks(comparison, random);
+    }
+}
+
+/// Parity of sixteen questions about sixteen fields, where the walk goes through tens of thousands of combinations of answers.
+fn long_walks(comparison: &mut Comparison, random: &mut Random) {
+    let wide = Size { fields: (MOST_FIELDS, MOST_FIELDS), most_steps: 9, most_questions: 16 };
+    let survey = generate::survey(random, wide);
+    let store = open(comparison, &survey, MOST_ENTRIES);
+    let parity = comparison.call(&Call::Build { rule: generate::parity_rule(&survey.list) }, &store);
+    let handle = parity.answer.result;
+    let negation = comparison.call(&Call::Negate(handle), &parity.store);
+    comparison.call(&Call::Join(handle, negation.answer.result), &negation.store);
+    comparison.call(&Call::Example { handle, sheet: vec![0; MOST_FIELDS as usize] }, &negation.store);
 }
 
 /// A list of many questions, which are about so few fields that there are some thousand combinations of answers at most.
