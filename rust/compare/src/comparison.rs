@@ -2,7 +2,7 @@
 
 use std::collections::BTreeMap;
 
-use independent::{refusal, smallest_box, Fast, Operations, Plain, Question, SimplifyAnswer, Term};
+use independent::{largest_count, refusal, Fast, Operations, Plain, Question, SimplifyAnswer, Term};
 use independent::{MOST_ENTRIES, MOST_FIELDS, MOST_QUESTIONS};
 
 use crate::calls::{Call, Outcome};
@@ -180,7 +180,7 @@ pub fn bounds_are_affordable(n: u32, questions: &[Question]) -> bool {
 
 /// Whether all sheets of the box are tried in some milliseconds.
 pub fn counting_is_affordable(n: u32, questions: &[Question]) -> bool {
-    (smallest_box(n, questions) + 1).checked_pow(n).is_some_and(|sheets| sheets <= 20_000)
+    (largest_count(n, questions) + 1).checked_pow(n).is_some_and(|sheets| sheets <= 20_000)
 }
 
 struct Affordable {

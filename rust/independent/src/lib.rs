@@ -13,8 +13,8 @@ mod fast;
 mod plain;
 
 pub use fast::Fast;
+pub use plain::{largest_count, Plain, Question, Truths};
 pub use plain::{possible_by_bounds, possible_by_counting, sheets_by_bounds, sheets_by_counting};
-pub use plain::{smallest_box, Plain, Question, Truths};
 
 /// The largest number of fields of a sheet.
 pub const MOST_FIELDS: u32 = 16;

@@ -41,7 +41,7 @@ impl Plain {
         Plain { method: Method::Bounds, last: RefCell::new(None) }
     }
 
-    /// By trying all sheets of the box that [`smallest_box`] gives, which must be small.
+    /// By trying all sheets with counts up to [`largest_count`], of which there must be few.
     pub fn by_counting() -> Plain {
         Plain { method: Method::Counting, last: RefCell::new(None) }
     }
@@ -69,13 +69,14 @@ fn gap(question: &Question) -> i64 {
     i64::from(question.1.steps) - i64::from(question.0.steps)
 }
 
-/// The largest count that has to be tried: n x (K + 1), K being the largest gap without its sign.
+/// The largest count that has to be tried: n x (K + 1), K being the largest gap without its sign. The sheets with counts up to this
+/// are the box of a list.
 ///
 /// That larger counts give no further combination of answers is seen thus. Take any sheet, and put zero and its n counts in
 /// ascending order. Where two neighbours are more than K + 1 apart, lower the upper one and all above it until they are K + 1 apart.
 /// A question across that place was false, its sides being more than K apart, and still is for the same reason; any other
 /// question compares counts that moved alike. So all answers stay, and now the largest count is at most n steps of K + 1.
-pub fn smallest_box(n: u32, questions: &[Question]) -> u64 {
+pub fn largest_count(n: u32, questions: &[Question]) -> u64 {
     let largest_gap = questions.iter().map(|q| gap(q).unsigned_abs()).max().unwrap_or(0);
     u64::from(n) * (largest_gap + 1)
 }
@@ -86,12 +87,12 @@ pub fn sheets_by_counting(n: u32, questions: &[Question]) -> Vec<Vec<u64>> {
     let mut sheet = Some(vec![0; n as usize]);
     while let Some(counts) = sheet {
         found.entry(truths_of(questions, &counts)).or_insert_with(|| counts.clone());
-        sheet = next_sheet(counts, smallest_box(n, questions));
+        sheet = next_sheet(counts, largest_count(n, questions));
     }
     found.into_values().collect()
 }
 
-/// The combinations of answers that the sheets of the box give. By [`smallest_box`] these are all that any sheet gives.
+/// The combinations of answers that the sheets of the box give. By [`largest_count`] these are all that any sheet gives.
 pub fn possible_by_counting(n: u32, questions: &[Question]) -> Vec<Truths> {
     let mut possible: Vec<Truths> =
         sheets_by_counting(n, questions).iter().map(|sheet| truths_of(questions, sheet)).collect();
@@ -580,7 +581,7 @@ impl Plain {
 
 /// The first sheet of the box that satisfies the handle.
 fn example_by_counting(contents: &Contents, a: u32) -> Option<Vec<u64>> {
-    let most = smallest_box(contents.n, &contents.questions);
+    let most = largest_count(contents.n, &contents.questions);
     let mut sheet = Some(vec![0; contents.n as usize]);
     while let Some(counts) = sheet {
         if contents.holds(a, truths_of(&contents.questions, &counts)) {

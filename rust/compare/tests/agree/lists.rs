@@ -5,7 +5,7 @@ use compare::comparison::{bounds_are_affordable, counting_is_affordable, questio
 use compare::generate::{self, Size, Survey};
 use compare::ledger::Ledger;
 use compare::random::Random;
-use independent::{possible_by_bounds, possible_by_counting, smallest_box, HEADING, MOST_FIELDS, MOST_STEPS};
+use independent::{largest_count, possible_by_bounds, possible_by_counting, HEADING, MOST_FIELDS, MOST_STEPS};
 
 /// That difference bounds and trying all counts find the same combinations of answers.
 pub fn possible_answers(comparison: &mut Comparison, random: &mut Random, cases: u64) {
@@ -87,7 +87,7 @@ fn call(random: &mut Random, survey: &Survey, used: u32, known: &[u32]) -> Call 
 
 /// That no count of an example exceeds n x (K + 1).
 fn test_bound(comparison: &mut Comparison, survey: &Survey, sheet: &[u16]) {
-    let most = smallest_box(survey.n, &questions_of(&survey.list));
+    let most = largest_count(survey.n, &questions_of(&survey.list));
     let within = sheet.iter().all(|count| u64::from(*count) <= most);
     comparison.test("the bound on an example's counts", within, || format!("{survey:?} {sheet:?}"));
 }
