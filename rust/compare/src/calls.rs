@@ -1,0 +1,105 @@
+//! A call of any operation as a value, and what it leaves behind.
+
+use independent::{Answer, Operations};
+
+/// A call on a store. Slices beside the store are lent as they stand here.
+#[derive(Clone, Debug)]
+pub enum Call {
+    Open { n: u32, list: Vec<u32> },
+    Build { rule: Vec<u32> },
+    Negate(u32),
+    Join(u32, u32),
+    Choose(u32, u32, u32),
+    Verdict(u32),
+    Example { handle: u32, sheet: Vec<u16> },
+    Read { handle: u32, sheet: Vec<u16> },
+    WriteBack { handle: u32, rule: Vec<u32> },
+}
+
+/// The answer, and every lent word after the call.
+#[derive(Clone, Debug, PartialEq, Eq)]
+pub struct Outcome {
+    pub answer: Answer,
+    pub store: Vec<u32>,
+    pub sheet: Vec<u16>,
+    pub words: Vec<u32>,
+    /// Whether the words around the lent slices are as they were.
+    pub kept_within: bool,
+}
+
+/// How many words stand around a lent slice, to show a write that goes astray.
+const AROUND: usize = 8;
+
+/// A slice lent out of the middle of a longer one.
+struct Lent<T> {
+    words: Vec<T>,
+    around: T,
+}
+
+impl<T: Copy + PartialEq> Lent<T> {
+    fn new(words: &[T], around: T) -> Lent<T> {
+        let mut longer = vec![around; words.len() + 2 * AROUND];
+        longer[AROUND..AROUND + words.len()].copy_from_slice(words);
+        Lent { words: longer, around }
+    }
+
+    fn slice(&mut self) -> &mut [T] {
+        let end = self.words.len() - AROUND;
+        &mut self.words[AROUND..end]
+    }
+
+    fn kept_within(&self) -> bool {
+        let end = self.words.len() - AROUND;
+        self.words[..AROUND].iter().chain(&self.words[end..]).all(|word| *word == self.around)
+    }
+
+    fn back(mut self) -> Vec<T> {
+        self.words.truncate(self.words.len() - AROUND);
+        self.words.drain(..AROUND);
+        self.words
+    }
+}
+
+impl Call {
+    pub fn name(&self) -> &'static str {
+        match self {
+            Call::Open { .. } => "open",
+            Call::Build { .. } => "build",
+            Call::Negate(_) => "negate",
+            Call::Join(..) => "join",
+            Call::Choose(..) => "choose",
+            Call::Verdict(_) => "verdict",
+            Call::Example { .. } => "example",
+            Call::Read { .. } => "read",
+            Call::WriteBack { .. } => "write back",
+        }
+    }
+
+    /// Makes the call on copies of the lent words.
+    pub fn make(&self, operations: &dyn Operations, store: &[u32]) -> Outcome {
+        let words: &[u32] = match self {
+            Call::Open { list: words, .. } | Call::Build { rule: words } | Call::WriteBack { rule: words, .. } => words,
+            _ => &[],
+        };
+        let sheet: &[u16] = match self {
+            Call::Example { sheet, .. } | Call::Read { sheet, .. } => sheet,
+            _ => &[],
+        };
+        let mut store = Lent::new(store, 0xA5A5_A5A5);
+        let mut words = Lent::new(words, 0x5A5A_5A5A);
+        let mut sheet = Lent::new(sheet, 0xA55A);
+        let answer = match *self {
+            Call::Open { n, .. } => operations.open(n, words.slice(), store.slice()),
+            Call::Build { .. } => operations.build(store.slice(), words.slice()),
+            Call::Negate(a) => operations.negate(store.slice(), a),
+            Call::Join(a, b) => operations.join(store.slice(), a, b),
+            Call::Choose(a, b, c) => operations.choose(store.slice(), a, b, c),
+            Call::Verdict(a) => operations.verdict(store.slice(), a),
+            Call::Example { handle, .. } => operations.example(store.slice(), handle, sheet.slice()),
+            Call::Read { handle, .. } => operations.read(store.slice(), handle, sheet.slice()),
+            Call::WriteBack { handle, .. } => operations.write_back(store.slice(), handle, words.slice()),
+        };
+        let kept_within = store.kept_within() && words.kept_within() && sheet.kept_within();
+        Outcome { answer, store: store.back(), sheet: sheet.back(), words: words.back(), kept_within }
+    }
+}

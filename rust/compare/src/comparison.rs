@@ -1,0 +1,207 @@
+//! Makes calls with every implementation, compares all that they leave, and keeps count.
+
+use std::collections::BTreeMap;
+
+use independent::{largest_count, refusal, Fast, Operations, Plain, Question, SimplifyAnswer, Term};
+use independent::{MOST_ENTRIES, MOST_FIELDS, MOST_QUESTIONS};
+
+use crate::calls::{Call, Outcome};
+use crate::library::Library;
+
+/// Differences are printed up to this many.
+const MOST_PRINTED: u64 = 10;
+
+/// What was called, compared and met so far.
+pub struct Comparison {
+    by_bounds: Plain,
+    by_counting: Plain,
+    /// How often each operation gave each number, 0 being acceptance.
+    numbers: BTreeMap<&'static str, BTreeMap<u32, u64>>,
+    compared_by_bounds: u64,
+    compared_by_counting: u64,
+    /// Other facts that were tested, by name.
+    tested: BTreeMap<&'static str, u64>,
+    differing: u64,
+}
+
+impl Default for Comparison {
+    fn default() -> Comparison {
+        Comparison {
+            by_bounds: Plain::by_bounds(),
+            by_counting: Plain::by_counting(),
+            numbers: BTreeMap::new(),
+            compared_by_bounds: 0,
+            compared_by_counting: 0,
+            tested: BTreeMap::new(),
+            differing: 0,
+        }
+    }
+}
+
+impl Comparison {
+    /// Makes a call with the library and with every implementation that can afford it. Gives what the library left.
+    pub fn call(&mut self, call: &Call, store: &[u32]) -> Outcome {
+        let outcome = call.make(&Library, store);
+        self.count(call.name(), outcome.answer.number);
+        if !outcome.kept_within {
+            self.differ(&format!("{call:?} on {store:?} wrote outside of what was lent"));
+        }
+        let affordable = affordable(call, store);
+        let mut others = vec![("the fast implementation", call.make(&Fast, store))];
+        if affordable.bounds {
+            self.compared_by_bounds += 1;
+            others.push(("the plain implementation", call.make(&self.by_bounds, store)));
+        }
+        if affordable.counting {
+            self.compared_by_counting += 1;
+            others.push(("trying all counts", call.make(&self.by_counting, store)));
+        }
+        for (by, expected) in others {
+            if outcome != expected {
+                let calls = format!("call {call:?}\n  store {store:?}");
+                self.differ(&format!("{by}\n  {calls}\n  library {outcome:?}\n  other {expected:?}"));
+            }
+        }
+        outcome
+    }
+
+    /// Simplifies with the library and with both other implementations.
+    pub fn simplify(&mut self, a: u32, b: u32) -> SimplifyAnswer {
+        let answer = Library.simplify(a, b);
+        self.count("simplify", answer.number);
+        self.compared_by_bounds += 1;
+        let expected = [Fast.simplify(a, b), self.by_bounds.simplify(a, b)];
+        if expected != [answer; 2] {
+            self.differ(&format!("simplify {a} {b}: {answer:?}, the others {expected:?}"));
+        }
+        answer
+    }
+
+    /// Tests one more fact, described if it doesn't hold.
+    pub fn test(&mut self, name: &'static str, holds: bool, describe: impl FnOnce() -> String) {
+        *self.tested.entry(name).or_default() += 1;
+        if !holds {
+            self.differ(&format!("{name}: {}", describe()));
+        }
+    }
+
+    fn count(&mut self, operation: &'static str, number: u32) {
+        *self.numbers.entry(operation).or_default().entry(number).or_default() += 1;
+    }
+
+    fn differ(&mut self, description: &str) {
+        self.differing += 1;
+        if self.differing <= MOST_PRINTED {
+            eprintln!("DIFFERENCE: {description}");
+        }
+    }
+
+    /// Prints what was compared. True if nothing differs and each operation gave each number that it can give, and no other.
+    pub fn report(&self) -> bool {
+        let compared: u64 = self.numbers.values().flat_map(BTreeMap::values).sum();
+        println!("calls compared word for word: {compared}");
+        println!("  all of them with the fast implementation");
+        println!("  {} also with the plain one by difference bounds", self.compared_by_bounds);
+        println!("  {} also with the plain one that tries all counts", self.compared_by_counting);
+        println!("tested besides:");
+        for (name, times) in &self.tested {
+            println!("  {name}: {times}");
+        }
+        println!("how often each operation gave each number (0 is acceptance):");
+        for (operation, numbers) in &self.numbers {
+            let line: Vec<String> = numbers.iter().map(|(number, times)| format!("{number}: {times}")).collect();
+            println!("  {operation:<10}  {}", line.join("  "));
+        }
+        let mut unmet = 0;
+        for (operation, possible) in NUMBERS {
+            let met: Vec<u32> = self.numbers.get(operation).into_iter().flat_map(BTreeMap::keys).copied().collect();
+            for number in possible.iter().filter(|number| !met.contains(number)) {
+                println!("NOT MET: {number} of {operation}");
+                unmet += 1;
+            }
+            for number in met.iter().filter(|number| !possible.contains(number)) {
+                println!("NOT A NUMBER OF {operation}: {number}");
+                unmet += 1;
+            }
+        }
+        println!("refusal numbers, and how often each was met:");
+        for numbers in refusal::ALL.chunks(10) {
+            let times = |number: &u32| self.numbers.values().filter_map(|met| met.get(number)).sum::<u64>();
+            let line: Vec<String> = numbers.iter().map(|number| format!("{number}: {}", times(number))).collect();
+            println!("  {}", line.join("  "));
+        }
+        println!("not met: {unmet}");
+        println!("differing: {}", self.differing);
+        self.differing == 0 && unmet == 0
+    }
+}
+
+/// The numbers that each operation can give, by document 01.
+const NUMBERS: [(&str, &[u32]); 10] = [
+    ("simplify", &[0, 35]),
+    ("open", &[0, 11, 12, 13, 14, 15, 16, 21]),
+    ("build", &[0, 22, 31, 32, 33, 34, 35, 36, 51]),
+    ("negate", &[0, 22, 41, 51]),
+    ("join", &[0, 22, 41, 51]),
+    ("choose", &[0, 22, 41, 51]),
+    ("verdict", &[0, 22, 41]),
+    ("example", &[0, 22, 23, 41, 52]),
+    ("read", &[0, 22, 23, 41]),
+    ("write back", &[0, 22, 23, 41, 53]),
+];
+
+/// The questions of list words.
+pub fn questions_of(list: &[u32]) -> Vec<Question> {
+    list.chunks(2).map(|pair| (Term::of_word(pair[0]), Term::of_word(pair[1]))).collect()
+}
+
+/// The fields and questions of a store, if its heading leaves a list to look at.
+fn survey_of(store: &[u32]) -> Option<(u32, Vec<Question>)> {
+    let [n, q, _, rest @ ..] = store else { return None };
+    if *n > MOST_FIELDS || *q > MOST_QUESTIONS as u32 {
+        return None;
+    }
+    Some((*n, questions_of(rest.get(..2 * *q as usize)?)))
+}
+
+/// A number that the possible combinations of answers don't exceed. Of the questions about the same two fields at most one is true.
+pub fn most_combinations(questions: &[Question]) -> u64 {
+    let mut about: BTreeMap<(u32, u32), u64> = BTreeMap::new();
+    for (left, right) in questions {
+        *about.entry((left.field, right.field)).or_insert(1) += 1;
+    }
+    about.values().fold(1, |most: u64, answers| most.saturating_mul(*answers))
+}
+
+/// Whether the difference bounds of all combinations of answers are worked out in some milliseconds.
+pub fn bounds_are_affordable(n: u32, questions: &[Question]) -> bool {
+    most_combinations(questions).saturating_mul(u64::from(n + 1).pow(4)) <= 20_000_000
+}
+
+/// Whether all sheets of the box are tried in some milliseconds.
+pub fn counting_is_affordable(n: u32, questions: &[Question]) -> bool {
+    (largest_count(n, questions) + 1).checked_pow(n).is_some_and(|sheets| sheets <= 20_000)
+}
+
+struct Affordable {
+    bounds: bool,
+    counting: bool,
+}
+
+/// Which plain implementations can make a call in some milliseconds. They compare every two entries of a store, and all but open,
+/// read and write back look at every possible combination of answers.
+fn affordable(call: &Call, store: &[u32]) -> Affordable {
+    if matches!(call, Call::Open { .. }) {
+        return Affordable { bounds: true, counting: true };
+    }
+    if store.get(2).is_some_and(|used| *used > 500 && *used <= MOST_ENTRIES as u32) {
+        return Affordable { bounds: false, counting: false };
+    }
+    match survey_of(store) {
+        // Such a store isn't sound, which they find at once.
+        None => Affordable { bounds: true, counting: true },
+        Some((n, questions)) => {
+            Affordable { bounds: bounds_are_affordable(n, &questions), counting: counting_is_affordable(n, &questions) }
+        }
+    }
+}

@@ -1,0 +1,449 @@
+//! Lists, rules, sheets and stores to try: good ones, and ones with a fault.
+
+use std::collections::HashSet;
+
+use independent::{Term, FIRST_ENTRY, HEADING, MOST_FIELDS, MOST_QUESTIONS, MOST_ROWS, MOST_STEPS};
+
+use crate::random::Random;
+
+/// The number of fields and the list words of a store to be opened.
+#[derive(Clone, Debug)]
+pub struct Survey {
+    pub n: u32,
+    pub list: Vec<u32>,
+}
+
+/// How large the fields, gaps and lists of a random survey get.
+#[derive(Clone, Copy)]
+pub struct Size {
+    pub fields: (u32, u32),
+    pub most_steps: u32,
+    pub most_questions: u32,
+}
+
+/// All sheets of a box can be tried.
+pub const SMALL: Size = Size { fields: (0, 3), most_steps: 2, most_questions: 8 };
+/// Enough fields for facts to meet in many ways.
+pub const MIDDLE: Size = Size { fields: (3, 6), most_steps: 3, most_questions: 12 };
+/// Few fields with many questions and large gaps.
+pub const TALL: Size = Size { fields: (1, 2), most_steps: MOST_STEPS, most_questions: MOST_QUESTIONS as u32 };
+/// Many fields; few questions, so that the walk stays short.
+pub const WIDE: Size = Size { fields: (9, MOST_FIELDS), most_steps: 40, most_questions: 9 };
+
+pub const SIZES: [Size; 4] = [SMALL, MIDDLE, TALL, WIDE];
+
+/// A question in its simplified form: the larger field left, steps on one side only, none left against zero.
+fn question(random: &mut Random, n: u32, most_steps: u32) -> [u32; 2] {
+    let left = random.between(1, n);
+    let right = random.below(left);
+    let steps = if random.one_in(2) { random.below(most_steps.min(2) + 1) } else { random.below(most_steps + 1) };
+    let steps_left = right != 0 && random.one_in(2);
+    let (left_steps, right_steps) = if steps_left { (steps, 0) } else { (0, steps) };
+    [Term { field: left, steps: left_steps }.word(), Term { field: right, steps: right_steps }.word()]
+}
+
+/// The numbers that the order of questions compares.
+pub fn rank(pair: &[u32; 2]) -> (u32, u32, u32, u32) {
+    let [left, right] = pair.map(Term::of_word);
+    (left.field, right.field, left.steps, right.steps)
+}
+
+/// The list words of questions in their order, doubles left out.
+pub fn in_order(mut questions: Vec<[u32; 2]>) -> Vec<u32> {
+    questions.sort_by_key(rank);
+    questions.dedup();
+    questions.concat()
+}
+
+/// A survey that opening accepts.
+pub fn survey(random: &mut Random, size: Size) -> Survey {
+    let n = random.between(size.fields.0, size.fields.1);
+    let wanted = if n == 0 { 0 } else { random.below(size.most_questions + 1) };
+    let list = in_order((0..wanted).map(|_| question(random, n, size.most_steps)).collect());
+    Survey { n, list }
+}
+
+/// A survey that opening mostly refuses.
+pub fn faulty_survey(random: &mut Random) -> Survey {
+    let size = *random.pick(&SIZES);
+    let Survey { mut n, mut list } = survey(random, size);
+    match random.below(9) {
+        // Too many fields, or too few for the list.
+        0 => n = *random.pick(&[17, 18, 31, 32, u32::MAX]),
+        1 => n = random.below(n + 1),
+        // An odd number of words.
+        2 => list.push(random.word() % 600),
+        // Twenty questions or more, all good.
+        3 => {
+            let pairs = *random.pick(&[20, 21, 22, 40]);
+            n = MOST_FIELDS;
+            list = in_order((0..4 * pairs).map(|_| question(random, n, MOST_STEPS)).collect());
+            list.truncate(2 * pairs as usize);
+        }
+        // A word at or beyond the limits of fields and steps.
+        4 if !list.is_empty() => {
+            let at = random.place(list.len());
+            let longer = [list[at] + 32 * MOST_STEPS, list[at] + 32 * (MOST_STEPS + 1)];
+            list[at] = *random.pick(&[8160, 8192, 8191, 31, 17, 16, u32::MAX, longer[0], longer[1]]);
+        }
+        // Two questions exchanged.
+        5 if list.len() > 3 => {
+            let at = 2 * random.place(list.len() / 2 - 1);
+            list.swap(at, at + 2);
+            list.swap(at + 1, at + 3);
+        }
+        // A question turned round, written twice, with common steps, or with two equal sides.
+        6 if !list.is_empty() => {
+            let at = 2 * random.place(list.len() / 2);
+            let pair = [list[at], list[at + 1]];
+            match random.below(4) {
+                0 => list.swap(at, at + 1),
+                1 => list.splice(at..at, pair).for_each(drop),
+                2 => list[at..at + 2].iter_mut().for_each(|word| *word += 32),
+                _ => list[at + 1] = list[at],
+            }
+        }
+        // One bit flipped.
+        7 if !list.is_empty() => {
+            let at = random.place(list.len());
+            list[at] ^= 1 << random.below(15);
+        }
+        // Any small words.
+        _ => list = (0..random.below(50)).map(|_| random.word() % 70).collect(),
+    }
+    Survey { n, list }
+}
+
+/// A pair of term words that simplifies to a question of the list, or to always or never.
+fn equation(random: &mut Random, survey: &Survey) -> [u32; 2] {
+    if survey.list.is_empty() || random.one_in(10) {
+        let field = random.below(survey.n + 1);
+        let steps = if random.one_in(2) { 2 } else { MOST_STEPS + 1 };
+        let [a, b] = [0; 2].map(|_| Term { field, steps: random.below(steps) });
+        return [a.word(), b.word()];
+    }
+    let at = 2 * random.place(survey.list.len() / 2);
+    let (mut a, mut b) = (Term::of_word(survey.list[at]), Term::of_word(survey.list[at + 1]));
+    if random.one_in(2) {
+        std::mem::swap(&mut a, &mut b);
+    }
+    let spare = MOST_STEPS - a.steps.max(b.steps);
+    let common = if random.one_in(2) { 0 } else { random.below(spare + 1) };
+    a.steps += common;
+    b.steps += common;
+    [a.word(), b.word()]
+}
+
+/// A rule table with the given number of rows, which build accepts if there is room.
+pub fn rule_of(random: &mut Random, survey: &Survey, rows: usize) -> Vec<u32> {
+    let mut table: Vec<[u32; 4]> = Vec::with_capacity(rows);
+    for own in 0..rows as u32 {
+        // Later rows mostly combine recent ones, so that the last row says something about many of them.
+        let combine = own > 0 && (own + 1 == rows as u32 || !random.one_in(3));
+        let mut earlier = || if random.one_in(3) { random.below(own) } else { own - 1 - random.below(own.min(4)) };
+        let row = if combine {
+            let (a, b, c) = (earlier(), earlier(), earlier());
+            match random.below(5) {
+                0 => [3, a, 0, 0],
+                1 | 2 => [4, a, b, 0],
+                _ => [5, a, b, c],
+            }
+        } else if random.one_in(12) {
+            [random.below(2), 0, 0, 0]
+        } else {
+            let [a, b] = equation(random, survey);
+            [2, a, b, 0]
+        };
+        table.push(row);
+    }
+    table.concat()
+}
+
+/// The rule that gives nearly every question of a list a certain answer, mostly no: a long path, on which any other answer
+/// settles the rule, so that the walk is short however many questions there are.
+pub fn long_path_rule(random: &mut Random, survey: &Survey) -> Vec<u32> {
+    let mut table: Vec<[u32; 4]> = vec![[1, 0, 0, 0]];
+    let mut left_out = 4;
+    for pair in survey.list.chunks(2) {
+        if left_out > 0 && random.one_in(8) {
+            left_out -= 1;
+            continue;
+        }
+        let whole = table.len() as u32 - 1;
+        table.push([2, pair[0], pair[1], 0]);
+        if !random.one_in(5) {
+            table.push([3, whole + 1, 0, 0]);
+        }
+        table.push([4, whole, table.len() as u32 - 1, 0]);
+    }
+    table.concat()
+}
+
+/// The rule that an odd number of the list words' questions is true.
+pub fn parity_rule(list: &[u32]) -> Vec<u32> {
+    let mut table: Vec<[u32; 4]> = vec![[0; 4]];
+    let mut odd = 0;
+    for pair in list.chunks(2) {
+        let own = table.len() as u32;
+        table.extend([[2, pair[0], pair[1], 0], [3, odd, 0, 0], [5, own, own + 1, odd]]);
+        odd = own + 2;
+    }
+    table.concat()
+}
+
+/// A rule table whose diagram is large: whether an odd number of random pairs of questions is true. The list isn't empty.
+pub fn tangled_rule(random: &mut Random, survey: &Survey, rows: usize) -> Vec<u32> {
+    let mut table: Vec<[u32; 4]> = survey.list.chunks(2).map(|pair| [2, pair[0], pair[1], 0]).collect();
+    let questions = table.len() as u32;
+    let mut odd = random.below(questions);
+    while table.len() + 3 <= rows {
+        let own = table.len() as u32;
+        let pair = [4, random.below(questions), random.below(questions), 0];
+        table.extend([pair, [3, own, 0, 0], [5, odd, own + 1, own]]);
+        odd = own + 2;
+    }
+    table.concat()
+}
+
+/// A rule table that build accepts if there is room.
+pub fn rule(random: &mut Random, survey: &Survey) -> Vec<u32> {
+    let rows = match random.below(12) {
+        0 => 1,
+        1 => random.between(40, MOST_ROWS as u32),
+        _ => random.between(1, 24),
+    };
+    rule_of(random, survey, rows as usize)
+}
+
+/// A rule table that build mostly refuses.
+pub fn faulty_rule(random: &mut Random, survey: &Survey) -> Vec<u32> {
+    let mut words = rule(random, survey);
+    let row = 4 * random.place(words.len() / 4);
+    let own = (row / 4) as u32;
+    match random.below(12) {
+        // No words, words that aren't whole rows, too many rows.
+        0 => words.clear(),
+        1 => words.truncate(words.len() - random.between(1, 3) as usize),
+        2 => {
+            let length = *random.pick(&[1028, 1032, 1025, 2048]);
+            words.resize(length, 0);
+        }
+        // An unknown kind, or something in columns that may be unused.
+        3 => words[row] = *random.pick(&[6, 7, 255, 256, u32::MAX]),
+        4 => words[row + 3] ^= random.between(1, 9),
+        5 => words[row + 2] ^= random.between(1, 9),
+        // A reference that isn't lower.
+        6 => words[row..row + 4].copy_from_slice(&[3, own + random.below(3), 0, 0]),
+        7 => {
+            words[row..row + 4].copy_from_slice(&[5, own / 2, own / 3, own / 4]);
+            words[row + random.between(1, 3) as usize] = *random.pick(&[own, own + 1, u32::MAX]);
+        }
+        // A term at or beyond the limits.
+        8 => {
+            let [a, b] = equation(random, survey);
+            words[row..row + 4].copy_from_slice(&[2, a, b, 0]);
+            let column = random.between(1, 2) as usize;
+            words[row + column] = *random.pick(&[survey.n + 1, 17, 31, 8192, 8160, u32::MAX, a + 8192]);
+        }
+        // An equation that is hardly on the list.
+        9 | 10 => {
+            let [a, b] = [0; 2].map(|_| Term { field: random.below(survey.n + 1), steps: random.below(6) });
+            words[row..row + 4].copy_from_slice(&[2, a.word(), b.word(), 0]);
+        }
+        // Bits flipped anywhere.
+        _ => {
+            for _ in 0..random.between(1, 3) {
+                let at = random.place(words.len());
+                words[at] ^= 1 << random.below(12);
+            }
+        }
+    }
+    words
+}
+
+/// A handle: mostly one that the store has, sometimes one that it hasn't.
+pub fn handle(random: &mut Random, used: u32, known: &[u32]) -> u32 {
+    match random.below(20) {
+        0 => *random.pick(&[used.wrapping_add(2), used.wrapping_add(3), u32::MAX, u32::MAX - 1, 4098]),
+        1..=4 => random.below(used % 5000 + FIRST_ENTRY),
+        _ => *random.pick(known),
+    }
+}
+
+/// A sheet to read: mostly of the right length, with counts at which the answers change.
+pub fn sheet(random: &mut Random, survey: &Survey) -> Vec<u16> {
+    let length = match random.below(12) {
+        0 => random.below(20),
+        1 => survey.n + 1,
+        _ => survey.n.min(100),
+    };
+    let steps = survey.list.iter().map(|word| word / 32).max().unwrap_or(0);
+    let largest = *random.pick(&[1, 2, steps + 1, 17 * (steps + 1)]);
+    (0..length)
+        .map(|_| if random.one_in(40) { 65_535 - random.below(3) as u16 } else { random.below(largest + 1) as u16 })
+        .collect()
+}
+
+/// The number of words of a store: with room for no, few, many or more than all entries, and with words left over.
+pub fn store_length(random: &mut Random, survey: &Survey) -> usize {
+    let room = match random.below(10) {
+        0 => random.below(3),
+        1 | 2 => random.below(12),
+        3 => 4096 + random.below(3),
+        _ => random.between(60, 400),
+    };
+    HEADING + survey.list.len() + 3 * room as usize + random.place(3)
+}
+
+/// Up to so many different entries that the soundness conditions allow for a list of q questions; fewer if there are hardly as many.
+/// A certain entry can be left out, and with it the one that has its handles exchanged.
+pub fn sound_entries(random: &mut Random, q: u32, most: usize, without: Option<[u32; 3]>) -> Vec<[u32; 3]> {
+    let mut entries: Vec<[u32; 3]> = Vec::new();
+    let mut known: HashSet<[u32; 3]> =
+        without.into_iter().flat_map(|[q, yes, no]| [[q, yes, no], [q, no, yes]]).collect();
+    // Attempts that break a condition are dropped.
+    for _ in 0..40 * most {
+        if q == 0 || entries.len() == most {
+            break;
+        }
+        let end = entries.len() as u32 + FIRST_ENTRY;
+        let (yes, no) = (random.below(end), random.below(end));
+        let asked = |handle: u32| handle.checked_sub(FIRST_ENTRY).map_or(q + 1, |i| entries[i as usize][0]);
+        // A question a little before those of the two handles, so that many are left for entries to come.
+        let before = asked(yes).min(asked(no)) - 1;
+        if before > 0 && yes != no {
+            let entry = [before - random.below(before.min(3)), yes, no];
+            if known.insert(entry) {
+                entries.push(entry);
+            }
+        }
+    }
+    entries
+}
+
+/// The words of a store with the given entries and no unused words.
+pub fn store_of(survey: &Survey, entries: &[[u32; 3]]) -> Vec<u32> {
+    let mut store = vec![survey.n, (survey.list.len() / 2) as u32, entries.len() as u32];
+    store.extend(&survey.list);
+    store.extend(entries.as_flattened());
+    store
+}
+
+/// A sound store that no operation need have written: its entries are any that the soundness conditions allow.
+pub fn sound_store(random: &mut Random, survey: &Survey, most_entries: usize) -> Vec<u32> {
+    let q = (survey.list.len() / 2) as u32;
+    let mut store = store_of(survey, &sound_entries(random, q, most_entries, None));
+    let unused = if random.one_in(3) { random.below(3) } else { random.below(900) };
+    store.resize(store.len() + unused as usize, 0);
+    store
+}
+
+/// What can be wrong with a store. Each breaks a soundness condition, if the store has what it takes and chance doesn't spare it.
+#[derive(Clone, Copy, Debug)]
+pub enum Fault {
+    Fields,
+    Questions,
+    Used,
+    CutInList,
+    CutInEntries,
+    ListBit,
+    ListTerm,
+    NotSimplified,
+    NotAscending,
+    QuestionNumber,
+    EqualHandles,
+    HandleNotLower,
+    QuestionNotLater,
+    EqualEntries,
+    UnusedWord,
+    LastWord,
+    AnyBits,
+}
+
+pub const FAULTS: [Fault; 17] = [
+    Fault::Fields,
+    Fault::Questions,
+    Fault::Used,
+    Fault::CutInList,
+    Fault::CutInEntries,
+    Fault::ListBit,
+    Fault::ListTerm,
+    Fault::NotSimplified,
+    Fault::NotAscending,
+    Fault::QuestionNumber,
+    Fault::EqualHandles,
+    Fault::HandleNotLower,
+    Fault::QuestionNotLater,
+    Fault::EqualEntries,
+    Fault::UnusedWord,
+    Fault::LastWord,
+    Fault::AnyBits,
+];
+
+/// Puts a fault into a sound store.
+pub fn damage(random: &mut Random, store: &mut Vec<u32>, fault: Fault) {
+    let (n, q, used) = (store[0], store[1], store[2]);
+    let list = HEADING..HEADING + 2 * q as usize;
+    let entries = list.end..list.end + 3 * used as usize;
+    let list_word = |random: &mut Random| list.start + random.place(list.len());
+    let entry = |random: &mut Random| entries.start + 3 * random.place(used as usize);
+    match fault {
+        // Some of these numbers, times three or plus a few, are small again in 32 bits.
+        Fault::Fields => store[0] = *random.pick(&[17, 31, u32::MAX, n / 2]),
+        Fault::Questions => store[1] = *random.pick(&[21, q + 1, q / 2, u32::MAX, 1 << 31, (1 << 31) + 1]),
+        Fault::Used => store[2] = *random.pick(&[used + 1, used / 2, 4097, u32::MAX, 1_431_655_766, 2_863_311_531]),
+        Fault::CutInList => store.truncate(random.place(list.end + 1)),
+        Fault::CutInEntries => store.truncate(entries.end - random.between(1, 3) as usize),
+        Fault::ListBit if q > 0 => store[list_word(random)] ^= 1 << random.below(14),
+        Fault::ListTerm if q > 0 => store[list_word(random)] = *random.pick(&[8192, 31, n + 1, u32::MAX]),
+        Fault::NotSimplified if q > 0 => {
+            let at = list.start + 2 * random.place(q as usize);
+            store.swap(at, at + 1);
+        }
+        Fault::NotAscending if q > 1 => {
+            let at = list.start + 2 * random.place(q as usize - 1);
+            if random.one_in(2) {
+                store.swap(at, at + 2);
+                store.swap(at + 1, at + 3);
+            } else {
+                store.copy_within(at..at + 2, at + 2);
+            }
+        }
+        Fault::QuestionNumber if used > 0 => store[entry(random)] = *random.pick(&[0, q + 1, u32::MAX]),
+        Fault::EqualHandles if used > 0 => {
+            let at = entry(random);
+            store[at + 2] = store[at + 1];
+        }
+        Fault::HandleNotLower if used > 0 => {
+            let at = entry(random);
+            let own = ((at - entries.start) / 3) as u32 + FIRST_ENTRY;
+            store[at + random.between(1, 2) as usize] = *random.pick(&[own, own + 1, u32::MAX, u32::MAX - 1]);
+        }
+        Fault::QuestionNotLater if used > 1 => {
+            // The last entry names another one, and asks the same question or a later one.
+            let (named, last) = (random.below(used - 1), entries.end - 3);
+            let question = store[entries.start + 3 * named as usize];
+            store[last] = random.between(question, q);
+            store[last + random.between(1, 2) as usize] = named + FIRST_ENTRY;
+        }
+        Fault::EqualEntries if used > 1 => {
+            let at = entry(random);
+            store.copy_within(at..at + 3, entries.end - 3);
+        }
+        Fault::UnusedWord if entries.end < store.len() => {
+            let at = entries.end + random.place(store.len() - entries.end);
+            store[at] = 1 << random.below(32);
+        }
+        Fault::LastWord if entries.end < store.len() => {
+            let last = store.len() - 1;
+            store[last] = random.word() | 1;
+        }
+        _ => {
+            for _ in 0..random.between(1, 3) {
+                let at = random.place(store.len().min(entries.end + 3));
+                let bits = if random.one_in(4) { 32 } else { 4 };
+                store[at] ^= 1 << random.below(bits);
+            }
+        }
+    }
+}

@@ -1,0 +1,143 @@
+//! Words that nobody would write: terms beyond limits, lists with faults, stores that aren't sound or that no operation made.
+
+use compare::calls::Call;
+use compare::comparison::Comparison;
+use compare::generate::{self, FAULTS};
+use compare::random::Random;
+use independent::refusal::NOT_SOUND;
+use independent::{Fast, Operations, Term};
+
+/// Simplify on words at the limits, on random ones, and its answer against the truth at random counts.
+pub fn simplify(comparison: &mut Comparison, random: &mut Random, cases: u64) {
+    let steps = [0, 1, 2, 127, 254, 255, 256, 257];
+    let words: Vec<u32> =
+        steps.iter().flat_map(|steps| (0..32).map(move |field| Term { field, steps: *steps }.word())).collect();
+    for a in words.iter().chain(&[8160, 8192, u32::MAX, u32::MAX - 31, 1 << 31]) {
+        for b in &words {
+            simplify_one(comparison, random, *a, *b);
+        }
+    }
+    for _ in 0..50 * cases {
+        let [a, b] = [0; 2].map(|_| match random.below(8) {
+            0 => random.word(),
+            1 => random.below(8500),
+            _ => Term { field: random.below(5), steps: random.below(300) }.word(),
+        });
+        simplify_one(comparison, random, a, b);
+    }
+}
+
+fn simplify_one(comparison: &mut Comparison, random: &mut Random, a: u32, b: u32) {
+    let answer = comparison.simplify(a, b);
+    if answer.number != 0 {
+        return;
+    }
+    // Counts that are close together, so that equations are often true.
+    let mut counts = [0; 17];
+    let [a, b] = [a, b].map(Term::of_word);
+    let near = random.below(600);
+    counts[1..].iter_mut().for_each(|count| *count = near + random.below(4));
+    if random.one_in(2) {
+        let (low, high) = if a.steps < b.steps { (b, a) } else { (a, b) };
+        counts[high.field as usize] = counts[low.field as usize] + low.steps - high.steps;
+        counts[0] = 0;
+    }
+    let value = |term: Term| counts[term.field as usize] + term.steps;
+    let truth = value(a) == value(b);
+    let simplified = match answer.result {
+        2 => {
+            let [left, right] = [answer.left, answer.right].map(Term::of_word);
+            let by_gap = i64::from(counts[left.field as usize])
+                == i64::from(counts[right.field as usize]) + i64::from(answer.gap);
+            by_gap && value(left) == value(right)
+        }
+        result => result == 1,
+    };
+    comparison.test("truth of a simplified equation", truth == simplified, || format!("{a:?} = {b:?} at {counts:?}"));
+}
+
+/// Opening: lists with and without faults, stores of all lengths, full of other words.
+pub fn opening(comparison: &mut Comparison, random: &mut Random, cases: u64) {
+    for _ in 0..10 * cases {
+        let survey = if random.one_in(4) {
+            let size = *random.pick(&generate::SIZES);
+            generate::survey(random, size)
+        } else {
+            generate::faulty_survey(random)
+        };
+        let needed = 3 + survey.list.len();
+        let length = match random.below(4) {
+            0 => random.place(needed + 1),
+            1 => needed,
+            _ => needed + random.place(40),
+        };
+        let store: Vec<u32> = (0..length).map(|_| random.word()).collect();
+        comparison.call(&Call::Open { n: survey.n, list: survey.list }, &store);
+    }
+}
+
+/// One call of each operation that takes a store.
+fn every_operation(comparison: &mut Comparison, random: &mut Random, survey: &generate::Survey, store: &[u32]) {
+    let used = store.get(2).copied().unwrap_or(0);
+    let handles = [0; 9].map(|_| generate::handle(random, used, &[0, 1, 2, used.wrapping_add(1), used / 2 + 1]));
+    let rule = if random.one_in(4) { generate::faulty_rule(random, survey) } else { generate::rule(random, survey) };
+    let sheet = generate::sheet(random, survey);
+    let lent_sheet = vec![7; if random.one_in(10) { random.place(18) } else { survey.n.min(16) as usize }];
+    let lent_rows = if random.one_in(5) { random.place(1024) } else { 1024 };
+    let calls = [
+        Call::Build { rule },
+        Call::Negate(handles[0]),
+        Call::Join(handles[1], handles[2]),
+        Call::Choose(handles[3], handles[4], handles[5]),
+        Call::Verdict(handles[6]),
+        Call::Example { handle: handles[7], sheet: lent_sheet },
+        Call::Read { handle: handles[8], sheet },
+        Call::WriteBack { handle: handles[0], rule: vec![9; lent_rows] },
+    ];
+    for call in calls {
+        comparison.call(&call, store);
+    }
+}
+
+/// Sound stores with entries that no operation made: dead paths, forced questions, one meaning under several handles.
+pub fn sound_stores(comparison: &mut Comparison, random: &mut Random, cases: u64) {
+    for _ in 0..2 * cases {
+        let size = *random.pick(&generate::SIZES);
+        let survey = generate::survey(random, size);
+        let most_entries = *random.pick(&[3, 10, 40, 200]);
+        let store = generate::sound_store(random, &survey, most_entries);
+        every_operation(comparison, random, &survey, &store);
+    }
+}
+
+/// A store that operations have written.
+fn written_store(random: &mut Random, survey: &generate::Survey) -> Vec<u32> {
+    let mut store = vec![0; generate::store_length(random, survey)];
+    Fast.open(survey.n, &survey.list, &mut store);
+    for _ in 0..random.below(5) {
+        Fast.build(&mut store, &generate::rule(random, survey));
+    }
+    store
+}
+
+/// Stores with each soundness condition broken, and with random flips.
+pub fn damaged_stores(comparison: &mut Comparison, random: &mut Random, cases: u64) {
+    let mut refused = [false; FAULTS.len()];
+    for i in 0..4 * cases as usize {
+        let size = *random.pick(&generate::SIZES);
+        let survey = generate::survey(random, size);
+        let most_entries = *random.pick(&[3, 10, 40]);
+        let mut store = if random.one_in(2) {
+            written_store(random, &survey)
+        } else {
+            generate::sound_store(random, &survey, most_entries)
+        };
+        let fault = i % FAULTS.len();
+        generate::damage(random, &mut store, FAULTS[fault]);
+        every_operation(comparison, random, &survey, &store);
+        refused[fault] |= comparison.call(&Call::Verdict(0), &store).answer.number == NOT_SOUND;
+    }
+    for (fault, refused) in FAULTS.into_iter().zip(refused) {
+        comparison.test("a fault that makes a store unsound", refused, || format!("{fault:?} was never refused"));
+    }
+}

@@ -1,0 +1,53 @@
+//! Compares the proved library with the independent implementation on many inputs, good and hostile, and reports what was compared.
+//!
+//! SHEET_CASES says how many lists of calls are tried (other counts follow it), SHEET_SEED which ones.
+
+mod cases;
+mod hostile;
+mod limits;
+mod lists;
+
+use std::process::ExitCode;
+use std::time::Instant;
+
+use compare::comparison::Comparison;
+use compare::random::Random;
+
+fn number_from_environment(name: &str, otherwise: u64) -> u64 {
+    match std::env::var(name) {
+        Ok(text) => text.parse().unwrap_or_else(|_| panic!("{name} is not a number: {text}")),
+        Err(_) => otherwise,
+    }
+}
+
+fn main() -> ExitCode {
+    let cases = number_from_environment("SHEET_CASES", 2_000);
+    let seed = number_from_environment("SHEET_SEED", 1);
+    println!("SHEET_CASES={cases} SHEET_SEED={seed}");
+
+    let mut comparison = Comparison::default();
+    type Suite = fn(&mut Comparison, &mut Random, u64);
+    let suites: [(&str, Suite); 11] = [
+        ("document 01's cases", cases::document_cases),
+        ("simplify", hostile::simplify),
+        ("the two ways to find possible answers", lists::possible_answers),
+        ("opening", hostile::opening),
+        ("lists of calls", lists::lists_of_calls),
+        ("long paths", lists::long_paths),
+        ("laws of Boolean algebra", lists::laws),
+        ("sound stores written by hand", hostile::sound_stores),
+        ("damaged stores", hostile::damaged_stores),
+        ("limits", limits::limits),
+        ("large diagrams", limits::large_diagrams),
+    ];
+    for (i, (name, suite)) in suites.into_iter().enumerate() {
+        let start = Instant::now();
+        suite(&mut comparison, &mut Random::new(seed << 8 | i as u64), cases);
+        println!("{name}: {:.1} s", start.elapsed().as_secs_f64());
+    }
+    if comparison.report() {
+        ExitCode::SUCCESS
+    } else {
+        ExitCode::FAILURE
+    }
+}

@@ -1,0 +1,144 @@
+use std::error::Error;
+use std::fmt;
+
+/// Why a call was refused. A refused call changes nothing.
+///
+/// ```
+/// use sheet::{Field, Refusal, Store};
+///
+/// let refusal = Store::open(1, [Field(2).equals(Field(1))], 10).unwrap_err();
+/// assert_eq!(refusal, Refusal::ListTerm);
+/// assert_eq!(refusal.number(), 14);
+/// assert_eq!(
+///     refusal.to_string(),
+///     "a term of the list has a field above the sheet's last one, or more than 255 steps"
+/// );
+/// ```
+#[derive(Clone, Copy, Debug, PartialEq, Eq, Hash)]
+#[repr(u32)]
+pub enum Refusal {
+    /// 11: more than 16 fields.
+    TooManyFields = 11,
+    /// 12: an odd number of list words.
+    OddList = 12,
+    /// 13: more than 20 questions.
+    TooManyQuestions = 13,
+    /// 14: a field above n or steps above 255 in the list.
+    ListTerm = 14,
+    /// 15: an equation of the list that isn't a simplified question.
+    NotSimplified = 15,
+    /// 16: a question that isn't strictly above the one before it.
+    NotAscending = 16,
+    /// 21: a store shorter than its heading and list.
+    StoreTooShort = 21,
+    /// 22: words that aren't a sound store.
+    NotSound = 22,
+    /// 23: a sheet that isn't n counts long, or too few words to write a rule back.
+    SliceLength = 23,
+    /// 31: a rule table without words.
+    NoRows = 31,
+    /// 32: words of a rule table that aren't whole rows.
+    BrokenRow = 32,
+    /// 33: more than 256 rows.
+    TooManyRows = 33,
+    /// 34: an unknown kind of row, a nonzero unused column, or a reference that isn't to a lower row.
+    BadRow = 34,
+    /// 35: a field above n or steps above 255 in a rule, or in an equation to be simplified.
+    RuleTerm = 35,
+    /// 36: an equation that is neither always nor never nor on the list.
+    NotListed = 36,
+    /// 41: a handle that the store doesn't have.
+    NoSuchHandle = 41,
+    /// 51: more new entries than there is room for.
+    NoRoom = 51,
+    /// 52: an example of a rule that nothing satisfies.
+    NothingSatisfies = 52,
+    /// 53: a rule that takes more than 256 rows to write back.
+    TooLargeToWrite = 53,
+}
+
+impl Refusal {
+    /// Every refusal, in the order of the numbers.
+    pub const ALL: [Refusal; 19] = [
+        Refusal::TooManyFields,
+        Refusal::OddList,
+        Refusal::TooManyQuestions,
+        Refusal::ListTerm,
+        Refusal::NotSimplified,
+        Refusal::NotAscending,
+        Refusal::StoreTooShort,
+        Refusal::NotSound,
+        Refusal::SliceLength,
+        Refusal::NoRows,
+        Refusal::BrokenRow,
+        Refusal::TooManyRows,
+        Refusal::BadRow,
+        Refusal::RuleTerm,
+        Refusal::NotListed,
+        Refusal::NoSuchHandle,
+        Refusal::NoRoom,
+        Refusal::NothingSatisfies,
+        Refusal::TooLargeToWrite,
+    ];
+
+    /// The refusal's number.
+    pub fn number(self) -> u32 {
+        self as u32
+    }
+
+    /// The refusal with a number, if there is one.
+    ///
+    /// ```
+    /// use sheet::Refusal;
+    ///
+    /// assert_eq!(Refusal::from_number(51), Some(Refusal::NoRoom));
+    /// assert_eq!(Refusal::from_number(0), None);
+    /// assert!(Refusal::ALL.iter().all(|refusal| Refusal::from_number(refusal.number()) == Some(*refusal)));
+    /// ```
+    pub fn from_number(number: u32) -> Option<Refusal> {
+        Refusal::ALL.into_iter().find(|refusal| refusal.number() == number)
+    }
+}
+
+impl fmt::Display for Refusal {
+    fn fmt(&self, f: &mut fmt::Formatter<'_>) -> fmt::Result {
+        f.write_str(match self {
+            Refusal::TooManyFields => "a sheet has at most 16 fields",
+            Refusal::OddList => "the list has an odd number of words, but each question takes two",
+            Refusal::TooManyQuestions => "a list has at most 20 questions",
+            Refusal::ListTerm => "a term of the list has a field above the sheet's last one, or more than 255 steps",
+            Refusal::NotSimplified => "an equation of the list is not a simplified question",
+            Refusal::NotAscending => {
+                "the list is not in order: each question must stand above the one before it, by left field, right field, left steps, right steps"
+            }
+            Refusal::StoreTooShort => "the store has too few words for its heading and its list of questions",
+            Refusal::NotSound => "the words are not a sound store",
+            Refusal::SliceLength => "the sheet does not have one count for each field, or the rule does not fit the words lent for it",
+            Refusal::NoRows => "the rule has no rows",
+            Refusal::BrokenRow => "the rule's words are not whole rows of four",
+            Refusal::TooManyRows => "a rule has at most 256 rows",
+            Refusal::BadRow => {
+                "a row of the rule has an unknown kind, something in an unused column, or a reference to a row that is not lower"
+            }
+            Refusal::RuleTerm => "a term has a field above the sheet's last one, or more than 255 steps",
+            Refusal::NotListed => "an equation of the rule is not on the store's list of questions",
+            Refusal::NoSuchHandle => "the store has no such handle",
+            Refusal::NoRoom => "the store has no room for the rule's diagram",
+            Refusal::NothingSatisfies => "no sheet satisfies the rule",
+            Refusal::TooLargeToWrite => "the rule takes more than 256 rows to write",
+        })
+    }
+}
+
+impl Error for Refusal {}
+
+/// An answer as a Result.
+pub(crate) fn outcome(number: u32, result: u32) -> Result<u32, Refusal> {
+    match Refusal::from_number(number) {
+        Some(refusal) => Err(refusal),
+        None => {
+            assert_eq!(number, 0, "the library gives no other number");
+            Ok(result)
+        }
+    }
+}

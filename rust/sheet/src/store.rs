@@ -1,0 +1,228 @@
+use crate::refusal::outcome;
+use crate::words::{self, Answer};
+use crate::{Equation, Question, Refusal, Rule, RuleTable};
+
+/// A diagram in a store. It means something only in the store that gave it.
+#[derive(Clone, Copy, Debug, PartialEq, Eq, Hash, PartialOrd, Ord)]
+pub struct Handle(u32);
+
+impl Handle {
+    /// The rule that no sheet satisfies.
+    pub const NEVER: Handle = Handle(0);
+    /// The rule that every sheet satisfies.
+    pub const ALWAYS: Handle = Handle(1);
+
+    /// The handle with a number. Entry i of a store, counted from 0, is handle i + 2.
+    pub fn from_number(number: u32) -> Handle {
+        Handle(number)
+    }
+
+    /// The handle's number.
+    pub fn number(self) -> u32 {
+        self.0
+    }
+}
+
+/// Which sheets satisfy a rule.
+#[derive(Clone, Copy, Debug, PartialEq, Eq)]
+pub enum Verdict {
+    /// None.
+    Never,
+    /// Every one.
+    Always,
+    /// Some do and some don't.
+    Sometimes,
+}
+
+/// An entry of a store: a question, and the handles to go on with.
+#[derive(Clone, Copy, Debug, PartialEq, Eq)]
+pub struct Entry {
+    /// The question asked.
+    pub question: Question,
+    /// The handle if the answer is yes.
+    pub yes: Handle,
+    /// The handle if the answer is no.
+    pub no: Handle,
+}
+
+/// Diagrams of rules over one list of questions. Its words are always a sound store.
+///
+/// ```
+/// use sheet::{Field, Handle, Refusal, Rule, Store};
+///
+/// let questions = [Field(2).equals(Field(1)), Field(3).equals(Field(1)), Field(3).equals(Field(2))];
+/// let mut store = Store::open(3, questions, 4)?;
+/// let handle = store.build(&questions[2].into())?;
+/// assert_eq!(handle.number(), 5);
+/// assert_eq!(store.as_words(), [3, 3, 4, 2, 1, 3, 1, 3, 2, 2, 1, 0, 3, 1, 0, 2, 0, 3, 1, 2, 4]);
+///
+/// // All four entries are in use. What needs a fifth is refused, and changes nothing.
+/// assert_eq!(store.negate(handle), Err(Refusal::NoRoom));
+/// assert_eq!((store.used(), store.room()), (4, 4));
+///
+/// // The words can be kept, and taken up again.
+/// let mut again = Store::from_words(store.into_words())?;
+/// assert_eq!(again.build(&Rule::from(questions[2]))?, handle);
+/// # Ok::<(), Refusal>(())
+/// ```
+#[derive(Clone, Debug, PartialEq, Eq)]
+pub struct Store {
+    words: Vec<u32>,
+}
+
+/// The words before the list: fields, questions, used entries.
+const HEADING: usize = 3;
+/// The most entries that a store has room for.
+const MOST_ENTRIES: usize = 4096;
+/// The most words of a rule that is written back: 256 rows of four.
+const MOST_RULE_WORDS: usize = 1024;
+
+impl Store {
+    /// Opens a store for sheets of `fields` fields and a list of up to 20 questions in their order, with room for `room` entries, of
+    /// which 4,096 are the most that can be used.
+    pub fn open<Q>(fields: u32, questions: Q, room: usize) -> Result<Store, Refusal>
+    where
+        Q: IntoIterator,
+        Q::Item: Into<Equation>,
+    {
+        let list: Vec<u32> = questions
+            .into_iter()
+            .map(Into::into)
+            .flat_map(|Equation { left, right }| [left.word(), right.word()])
+            .collect();
+        let mut words = vec![0; HEADING + list.len() + 3 * room.min(MOST_ENTRIES)];
+        result(words::open(fields, &list, &mut words))?;
+        Ok(Store { words })
+    }
+
+    /// A store from words that [`into_words`](Store::into_words) gave, or any others: [`Refusal::NotSound`] unless they are sound.
+    pub fn from_words(words: Vec<u32>) -> Result<Store, Refusal> {
+        // Every later operation tests this first; that handle 0 is there needs nothing else.
+        result(words::verdict(&words, Handle::NEVER.0))?;
+        Ok(Store { words })
+    }
+
+    /// The store's words.
+    pub fn as_words(&self) -> &[u32] {
+        &self.words
+    }
+
+    /// The store's words, given away.
+    pub fn into_words(self) -> Vec<u32> {
+        self.words
+    }
+
+    /// The number of fields of a sheet.
+    pub fn fields(&self) -> usize {
+        self.words[0] as usize
+    }
+
+    /// The questions that rules can be made of.
+    pub fn questions(&self) -> Vec<Question> {
+        self.words[HEADING..self.entries_start()]
+            .chunks_exact(2)
+            .map(|pair| Question::from_words(pair[0], pair[1]))
+            .collect()
+    }
+
+    /// How many entries are used.
+    pub fn used(&self) -> usize {
+        self.words[2] as usize
+    }
+
+    /// How many entries there is room for, the used ones included.
+    pub fn room(&self) -> usize {
+        ((self.words.len() - self.entries_start()) / 3).min(MOST_ENTRIES)
+    }
+
+    /// The entry that a handle names, if it isn't never or always.
+    pub fn entry(&self, handle: Handle) -> Option<Entry> {
+        let place = usize::try_from(handle.0.checked_sub(2)?).ok().filter(|place| *place < self.used())?;
+        let at = self.entries_start() + 3 * place;
+        let question = HEADING + 2 * (self.words[at] as usize - 1);
+        Some(Entry {
+            question: Question::from_words(self.words[question], self.words[question + 1]),
+            yes: Handle(self.words[at + 1]),
+            no: Handle(self.words[at + 2]),
+        })
+    }
+
+    fn entries_start(&self) -> usize {
+        HEADING + 2 * self.words[1] as usize
+    }
+
+    /// Adds a rule's diagram.
+    ///
+    /// The time grows with the combinations of answers that sheets can give to the list's questions, up to the last question of the
+    /// rule. With twenty questions about many fields there can be a million of them.
+    pub fn build(&mut self, rule: &Rule) -> Result<Handle, Refusal> {
+        self.build_table(&RuleTable::from(rule))
+    }
+
+    /// Adds the diagram of a rule given as a table.
+    pub fn build_table(&mut self, table: &RuleTable) -> Result<Handle, Refusal> {
+        handle(words::build(&mut self.words, &table.to_words()))
+    }
+
+    /// Adds the diagram of "not a".
+    pub fn negate(&mut self, a: Handle) -> Result<Handle, Refusal> {
+        handle(words::negate(&mut self.words, a.0))
+    }
+
+    /// Adds the diagram of "a and b".
+    pub fn join(&mut self, a: Handle, b: Handle) -> Result<Handle, Refusal> {
+        handle(words::join(&mut self.words, a.0, b.0))
+    }
+
+    /// Adds the diagram of "if a then b else c".
+    pub fn choose(&mut self, a: Handle, b: Handle, c: Handle) -> Result<Handle, Refusal> {
+        handle(words::choose(&mut self.words, a.0, b.0, c.0))
+    }
+
+    /// Whether no sheet, every sheet or some sheet satisfies a handle.
+    pub fn verdict(&self, a: Handle) -> Result<Verdict, Refusal> {
+        Ok(match result(words::verdict(&self.words, a.0))? {
+            0 => Verdict::Never,
+            1 => Verdict::Always,
+            _ => Verdict::Sometimes,
+        })
+    }
+
+    /// The least sheet that satisfies a handle, field 1 compared first. [`Refusal::NothingSatisfies`] if there is none.
+    pub fn example(&self, a: Handle) -> Result<Vec<u16>, Refusal> {
+        let mut sheet = vec![0; self.fields()];
+        result(words::example(&self.words, a.0, &mut sheet))?;
+        Ok(sheet)
+    }
+
+    /// Whether a sheet satisfies a handle. The sheet has one count for each field, field 1 first.
+    pub fn read(&self, a: Handle, sheet: &[u16]) -> Result<bool, Refusal> {
+        Ok(result(words::read(&self.words, a.0, sheet))? == 1)
+    }
+
+    /// A rule table for a handle. Built on this store it gives the handle again, if an operation had returned it.
+    ///
+    /// ```
+    /// use sheet::{Field, Store, ZERO};
+    ///
+    /// let questions = [Field(1).equals(ZERO), Field(1).equals(ZERO + 1)];
+    /// let mut store = Store::open(1, questions, 10)?;
+    /// let handle = store.build(&questions[1].into())?;
+    /// let table = store.write_back(handle)?;
+    /// assert_eq!(store.build_table(&table)?, handle);
+    /// # Ok::<(), sheet::Refusal>(())
+    /// ```
+    pub fn write_back(&self, a: Handle) -> Result<RuleTable, Refusal> {
+        let mut rule = [0; MOST_RULE_WORDS];
+        let rows = result(words::write_back(&self.words, a.0, &mut rule))?;
+        Ok(RuleTable::from_written(&rule[..4 * rows as usize]))
+    }
+}
+
+fn result(answer: Answer) -> Result<u32, Refusal> {
+    outcome(answer.number, answer.result)
+}
+
+fn handle(answer: Answer) -> Result<Handle, Refusal> {
+    result(answer).map(Handle)
+}

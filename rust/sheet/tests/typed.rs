@@ -1,0 +1,115 @@
+//! The typed interface gives what the words give, and every refusal that its types leave possible.
+
+use sheet::{words, Equation, Field, Handle, Refusal, Row, RowNumber, Rule, RuleTable, Store, ZERO};
+
+fn pairs() -> [Equation; 3] {
+    [Field(2).equals(Field(1)), Field(3).equals(Field(1)), Field(3).equals(Field(2))]
+}
+
+fn numbers(questions: u32) -> Vec<Equation> {
+    (0..questions).map(|number| Field(1).equals(ZERO + number)).collect()
+}
+
+#[test]
+fn opening_is_refused() {
+    let refusal = |fields: u32, questions: &[Equation]| Store::open(fields, questions.iter().copied(), 1).unwrap_err();
+    assert_eq!(refusal(17, &pairs()), Refusal::TooManyFields);
+    assert_eq!(refusal(1, &numbers(21)), Refusal::TooManyQuestions);
+    assert_eq!(refusal(2, &pairs()), Refusal::ListTerm);
+    assert_eq!(refusal(3, &[Field(1).equals(ZERO + 256)]), Refusal::ListTerm);
+    assert_eq!(refusal(3, &[Field(1).equals(Field(2))]), Refusal::NotSimplified);
+    assert_eq!(refusal(3, &[pairs()[1], pairs()[0]]), Refusal::NotAscending);
+}
+
+#[test]
+fn terms_too_large_for_a_word_are_refused_and_not_taken_for_others() {
+    for term in [Field(33) + 0, Field(u32::MAX) + 0, Field(1) + (1 << 27), Field(1) + u32::MAX, Field(17) + 0] {
+        assert_eq!(term.equals(ZERO).simplify(), Err(Refusal::RuleTerm));
+        assert_eq!(Store::open(16, [term.equals(ZERO)], 1).unwrap_err(), Refusal::ListTerm);
+    }
+}
+
+#[test]
+fn building_is_refused() {
+    let mut store = Store::open(3, pairs(), 4).unwrap();
+    let before = store.clone();
+    let mut refusal = |rows: &[Row]| {
+        let mut table = RuleTable::new();
+        for row in rows {
+            table.push(*row);
+        }
+        store.build_table(&table).unwrap_err()
+    };
+    assert_eq!(refusal(&[]), Refusal::NoRows);
+    assert_eq!(refusal(&[Row::Always; 257]), Refusal::TooManyRows);
+    assert_eq!(refusal(&[Row::Not(RowNumber(0))]), Refusal::BadRow);
+    assert_eq!(refusal(&[Row::Equation(Field(4).equals(ZERO))]), Refusal::RuleTerm);
+    assert_eq!(refusal(&[Row::Equation(Field(3).equals(ZERO))]), Refusal::NotListed);
+    assert_eq!(store, before);
+
+    // The diagram of 3 = 2 has four entries.
+    let mut small = Store::open(3, pairs(), 3).unwrap();
+    let before = small.clone();
+    assert_eq!(small.build(&pairs()[2].into()), Err(Refusal::NoRoom));
+    assert_eq!(small, before);
+}
+
+#[test]
+fn handles_and_sheets_are_refused() {
+    let mut store = Store::open(3, pairs(), 10).unwrap();
+    let missing = Handle::from_number(2);
+    assert_eq!(store.negate(missing), Err(Refusal::NoSuchHandle));
+    assert_eq!(store.join(Handle::ALWAYS, missing), Err(Refusal::NoSuchHandle));
+    assert_eq!(store.choose(Handle::ALWAYS, Handle::ALWAYS, missing), Err(Refusal::NoSuchHandle));
+    assert_eq!(store.verdict(missing), Err(Refusal::NoSuchHandle));
+    assert_eq!(store.example(missing), Err(Refusal::NoSuchHandle));
+    assert_eq!(store.read(missing, &[0; 3]), Err(Refusal::NoSuchHandle));
+    assert_eq!(store.write_back(missing), Err(Refusal::NoSuchHandle));
+    assert_eq!(store.entry(missing), None);
+    assert_eq!(store.example(Handle::NEVER), Err(Refusal::NothingSatisfies));
+    assert_eq!(store.read(Handle::ALWAYS, &[0; 2]), Err(Refusal::SliceLength));
+}
+
+#[test]
+fn unsound_words_are_refused() {
+    assert_eq!(Store::from_words(vec![]), Err(Refusal::NotSound));
+    let mut store = Store::open(3, pairs(), 10).unwrap();
+    store.build(&pairs()[2].into()).unwrap();
+    for place in 0..store.as_words().len() {
+        let mut words = store.as_words().to_vec();
+        words[place] = u32::MAX;
+        assert_eq!(Store::from_words(words), Err(Refusal::NotSound));
+    }
+    assert_eq!(Store::from_words(store.as_words().to_vec()), Ok(store));
+}
+
+#[test]
+fn parts_of_a_rule_share_rows() {
+    let equal = Rule::from(pairs()[0]);
+    let rule = (equal.clone() | !equal.clone()) & equal;
+    let table = RuleTable::from(&rule);
+    let expected = [
+        Row::Equation(pairs()[0]),
+        Row::Always,
+        Row::Not(RowNumber(0)),
+        Row::If(RowNumber(0), RowNumber(1), RowNumber(2)),
+        Row::And(RowNumber(3), RowNumber(0)),
+    ];
+    assert_eq!(table.rows(), expected);
+}
+
+#[test]
+fn a_store_shows_its_words() {
+    let mut store = Store::open(3, pairs(), 10).unwrap();
+    let handle = store.build(&pairs()[2].into()).unwrap();
+    assert_eq!((store.fields(), store.used(), store.room()), (3, 4, 10));
+    assert!(store.questions().into_iter().map(Equation::from).eq(pairs()));
+    let entry = store.entry(handle).unwrap();
+    assert_eq!((entry.question.equation(), entry.yes.number(), entry.no.number()), (pairs()[0], 2, 4));
+
+    let mut rule = [7; 50];
+    let answer = words::write_back(store.as_words(), handle.number(), &mut rule);
+    let table = store.write_back(handle).unwrap();
+    assert_eq!(table.to_words(), rule[..4 * answer.result as usize]);
+    assert_eq!(table.rows().len(), 10);
+}
