@@ -4,12 +4,12 @@ use Prim.Native.Nat.{ℕ, zero, suc, _+_, _-_, _*_, _%_, _≤_, _<_}
 use mathlib.Core.Path.{_≡_, refl, sym, ap, ap₂, _∙_, subst}
 use mathlib.Core.Logic.{_≢_}
 use mathlib.Core.Bool.{Bool, true, false, cond, _&&_, _||_, or-true}
-use mathlib.Core.List.{List, _++_}
+use mathlib.Core.List.{List, [], _∷_, _++_}
 use native.Mathlib.Omega.{arith}
 use native.Mathlib.Decide.{ℕ-discrete}
 use borrow.Author.Tests.{eq-eqb, ne-eqb, lt-ltb, le-ltb}
 use lib.Dec.{ltb}
-use lib.ListN.{length, getD, drop}
+use lib.ListN.{length, getD, take, drop}
 use Rattle.operations.specs.declared.answer.Built.the-variants.{Handle, OutOfLimits, NotListed}
 use Rattle.operations.specs.Handles.{Call, answer-to, Books, after, run}
 use Rattle.operations.specs.Operations as operation
@@ -19,11 +19,12 @@ use Rattle.store.specs.declared.opening.Opened.the-variants.{Accepted, OutOfLim
 use Rattle.store.specs.Layout.{heading-length, field-count, question-count, list-words, question-in, question, used, leaves}
 use Rattle.store.specs.Limits.{terms-within}
 use Rattle.store.specs.Open.{above-last, question-fault}
-use Rattle.store.specs.Outcome.{outcome}
+use Rattle.store.specs.Outcome.{Outcome, outcome}
 use Rattle.store.specs.Sound.{sound}
+use Rattle.tables.specs.declared.answer.Written.{Written}
 use Rattle.tables.specs.declared.answer.Written.the-variants as written
 use Rattle.tables.specs.Rows.{row-length, row-count, Row, row}
-use Rattle.tables.specs.WriteBack.{reachable, marked-before, written-rows, written-count, WellFormed, is-never, is-always, is-question, is-choice, most-rows, write-back, written-number}
+use Rattle.tables.specs.WriteBack.{reachable, marked-before, written-rows, written-count, WellFormed, is-never, is-always, is-question, is-choice, most-rows, write-back, written-number, written-result}
 use Rattle.terms.specs.declared.simplification.Guard.the-variants.{Question}
 use Rattle.terms.specs.declared.term.Equation.{Equation}
 use Rattle.terms.specs.declared.term.TermLimits.{TermLimits}
@@ -130,23 +131,44 @@ module _ {limits : Limits} {s : List ℕ} (snd : Sound limits s) where
         (rows-fine table (row-count table) 0 (λ j l. written-formed snd h u j (omega (arith, written-row-count s h))))
 
 -- ---- what write-back answers
--- rows are answered only if they are few enough
-pub written-few : (limits : Limits) (s : List ℕ) (h : ℕ) (out : List ℕ) (k : ℕ) → write-back limits s h out .answer ≡ written.Rows k → written-count s h ≤ most-rows
-unfolding write-back
-written-few limits s h out k e =
-    go (sound limits s) (ltb h (used s + leaves)) (ltb (length out) (row-length * written-count s h)) (written-rows s h ++ drop (row-length * written-count s h) out) (ap written-number e)
-  where
-    go : (a b c : Bool) (words : List ℕ) → written-number (cond a
-        (cond b
-        (cond (ltb most-rows (written-count s h)) (outcome written.TooManyRows out)
-        (cond c (outcome written.TooShort out) (outcome (written.Rows (written-count s h)) words)))
-        (outcome written.NoHandle out))
-        (outcome written.NotSound out) .answer) ≡ 0 → written-count s h ≤ most-rows
-    go false b c words = λ e. absurd (omega arith)
-    go true false c words = λ e. absurd (omega arith)
-    go true true c words = by-lt (λ t. written-number (cond t (outcome written.TooManyRows out)
-        (cond c (outcome written.TooShort out) (outcome (written.Rows (written-count s h)) words)) .answer) ≡ 0 → written-count s h ≤ most-rows)
-        most-rows (written-count s h) (λ _ e. absurd (omega arith)) (λ l _. l)
+-- rows are answered only if they are few enough; the first words are the rows, and the answer is their number
+pub record WrittenSo (s : List ℕ) (h : ℕ) (out : List ℕ) (k : ℕ) (words : List ℕ) : Type 0 where
+  pub few : written-count s h ≤ most-rows
+  pub count-is : k ≡ written-count s h
+  pub words-are : words ≡ written-rows s h ++ drop (row-length * written-count s h) out
+
+module _ (limits : Limits) (s : List ℕ) (h : ℕ) (out : List ℕ) (k : ℕ) where
+  -- what is to be shown of an outcome
+  abbrev Shown : Outcome Written → Type 0
+  Shown o = o .answer ≡ written.Rows k → WrittenSo s h out k (o .words)
+
+  abbrev last : Outcome Written
+  last = outcome (written.Rows (written-count s h)) (written-rows s h ++ drop (row-length * written-count s h) out)
+
+  refused : (a : Written) → 0 < written-number a → Shown (outcome a out)
+  refused a l e = absurd (omega (arith, ap written-number e))
+
+  pub written-so : Shown (write-back limits s h out)
+  unfolding write-back
+  written-so = go (sound limits s) (ltb h (used s + leaves)) (ltb (length out) (row-length * written-count s h))
+    where
+      fits : (c : Bool) → written-count s h ≤ most-rows → Shown (cond c (outcome written.TooShort out) last)
+      fits true l = refused written.TooShort (omega arith)
+      fits false l = λ e. record { few = l; count-is = sym (ap written-result e); words-are = refl }
+
+      go : (a b c : Bool) → Shown (cond a
+          (cond b (cond (ltb most-rows (written-count s h)) (outcome written.TooManyRows out) (cond c (outcome written.TooShort out) last)) (outcome written.NoHandle out))
+          (outcome written.NotSound out))
+      go false b c = refused written.NotSound (omega arith)
+      go true false c = refused written.NoHandle (omega arith)
+      go true true c = by-lt (λ t. Shown (cond t (outcome written.TooManyRows out) (cond c (outcome written.TooShort out) last))) most-rows (written-count s h)
+          (λ _. refused written.TooManyRows (omega arith)) (fits c)
+
+take-front : (xs ys : List ℕ) (n : ℕ) → length xs ≡ n → take n (xs ++ ys) ≡ xs
+take-front [] ys zero e = refl
+take-front [] ys (suc n) e = absurd (omega arith)
+take-front (x ∷ xs) ys zero e = absurd (omega arith)
+take-front (x ∷ xs) ys (suc n) e = ap (λ (zs : List ℕ). x ∷ zs) (take-front xs ys n (omega arith))
 
 -- "Building it on the same store gives that handle again if one of the operations had returned it."
 module _ {limits : Limits} (b : Books) (snd : Sound limits (b .words)) (c : Call) (h : ℕ) (e : answer-to limits c (b .words) .answer ≡ Handle h)
@@ -161,6 +183,11 @@ module _ {limits : Limits} (b : Books) (snd : Sound limits (b .words)) (c : Call
       let k = stands-later l (a .stands h e) in
       returned-again b snd c h e calls (written-rows now h) 0 (written-accepted (l .sound) h (k .handle-in) few) (written-means (l .sound) h (k .handle-in))
 
+  -- the rows are the first words of the slice, four for each row that write back answers
   pub written-again : (out : List ℕ) (k : ℕ) → write-back limits now h out .answer ≡ written.Rows k
-      → operation.build limits (written-rows now h) now ≡ outcome (Handle h) now
-  written-again out k w = rows-again (written-few limits now h out k w)
+      → operation.build limits (take (row-length * k) (write-back limits now h out .words)) now ≡ outcome (Handle h) now
+  written-again out k w =
+      let so = written-so limits now h out k w in
+      let rows : take (row-length * k) (write-back limits now h out .words) ≡ written-rows now h =
+      ap (take (row-length * k)) (so .words-are) ∙ take-front (written-rows now h) _ (row-length * k) (omega (arith, written-length now h, so .count-is)) in
+      ap (λ table. operation.build limits table now) rows ∙ rows-again (so .few)
