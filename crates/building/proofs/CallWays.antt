@@ -24,21 +24,21 @@ use Rattle.terms.specs.Meaning.{Valuation}
 use Rattle.walking.specs.declared.subject.Subject.{Subject}
 use Rattle.walking.specs.declared.subject.Subject.the-variants.{Table, Choice}
 use Rattle.walking.specs.Ready.{FitLimits}
-use Rattle.building.specs.Choice.{choice, CanChoose}
-use Rattle.building.specs.SubjectMeaning.{subject-meaning}
+use Rattle.building.specs.Choice.{CanChoose}
+use Rattle.inserting.specs.SubjectMeaning.{choice, subject-meaning}
 use Rattle.building.specs.Walked.{walked, CanAdd}
 use denote.Enum.Declared.{tagOf}
 use types.Run.{OneOf, miss}
 use Rattle.operations.proofs.answer.Built.{the-type}
 use Rattle.operations.proofs.MeaningAdded.{finished-alike}
-use Rattle.operations.proofs.RestsOn.{accepts}
+use Rattle.operations.proofs.TableListed.{accepts}
 use Rattle.store.proofs.Handles.{leaf-stays}
 use Rattle.store.proofs.SoundFacts.{Sound, sound-says}
 use Rattle.walking.proofs.SoundWalkable.{store-limits-fit}
 use Rattle.building.proofs.CheckWays.{refusals}
-use Rattle.building.proofs.SubjectValue.{Given}
-use Rattle.building.proofs.TableGood.{good-table}
-use Rattle.building.proofs.WalkInserts.{walk-inserts}
+use Rattle.inserting.proofs.SubjectValue.{Given}
+use Rattle.inserting.proofs.TableGood.{good-table}
+use Rattle.inserting.proofs.WalkInserts.{walk-inserts}
 
 -- ---- the walk adds the finished diagram
 walked-adds : {limits : Limits} {table : List ℕ} {subject : Subject} {s : List ℕ} → Sound limits s → Given limits table subject s

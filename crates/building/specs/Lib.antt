@@ -1,4 +1,3 @@
-pub mod SubjectMeaning
 pub mod Parts
 pub mod Walked
 pub mod Choice

@@ -1,6 +1,7 @@
 // Build, negate, join and choose.
 ghost use mathlib.Core.Path.{_≡_};
-ghost use Rattle.building.specs.Choice.{choice, CanChoose};
+ghost use Rattle.building.specs.Choice.{CanChoose};
+ghost use Rattle.inserting.specs.SubjectMeaning.{choice};
 ghost use Rattle.operations.specs.Operations as operation;
 ghost use Rattle.store.specs.Limits as limit;
 ghost use Rattle.store.specs.Outcome.{outcome};

@@ -27,7 +27,8 @@ use Rattle.store.proofs.SoundFacts.{Sound, sound-says, sound-from}
 use Rattle.store.proofs.Tests.{first-passes, second-passes}
 use Rattle.terms.proofs.Cases.{by-test, by-eq}
 use Rattle.operations.proofs.MeaningAdded.{Later, later-same, later-on, Stands, stands-later, stands-means, stands-exact, never-stands, always-stands, Answered, answered-alike, meaning-added, rebuild-same, added-unchanged}
-use Rattle.operations.proofs.RestsOn.{Rests, rests-not, rests-and, rests-if, accepts, handle-rests, table-rests, rests-fields}
+use Rattle.operations.proofs.RestsOn.{Rests, rests-not, rests-and, rests-if, handle-rests, table-rests, rests-fields}
+use Rattle.operations.proofs.TableListed.{accepts}
 
 -- ---- what a call does to a sound store
 -- the test that the store is sound passes

@@ -1,3 +1,4 @@
+pub mod TableListed
 pub mod RestsOn
 pub mod MeaningAdded
 pub mod HandleLaw

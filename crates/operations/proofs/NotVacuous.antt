@@ -39,7 +39,7 @@ use Rattle.diagram.proofs.InsertCount.{GrowsBy, insert-count}
 use Rattle.store.proofs.SoundFacts.{Sound, sound-from}
 use Rattle.operations.proofs.HandleLaw.{opened-kept}
 use Rattle.operations.proofs.MeaningAdded.{finished-ascending, finished-reduced}
-use Rattle.operations.proofs.RestsOn.{accepts}
+use Rattle.operations.proofs.TableListed.{accepts}
 
 -- ---- 22
 -- an answer other than 22

@@ -20,7 +20,7 @@ use Rattle.terms.specs.Meaning.{Valuation, truth}
 use Rattle.terms.specs.Words.{equation, term-of}
 use Rattle.walking.specs.declared.subject.Subject.the-variants.{Choice}
 use Rattle.walking.specs.Value.{not-value, agreed, choose-value, and-value, tree-value, row-value, row-values, table-value, subject-value}
-use Rattle.building.specs.SubjectMeaning.{subject-meaning}
+use Rattle.inserting.specs.SubjectMeaning.{subject-meaning}
 use Rattle.facts.proofs.Decided.{decided}
 use Rattle.store.proofs.SoundFacts.{Sound}
 use Rattle.store.proofs.SoundTree.{meaning-is-tree}

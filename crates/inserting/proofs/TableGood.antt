@@ -23,9 +23,8 @@ use Rattle.terms.specs.declared.term.TermLimits.{TermLimits}
 use Rattle.terms.specs.Simplify.{simplify}
 use Rattle.terms.specs.Words.{term-of, allows}
 use Rattle.walking.specs.Ready.{GoodRow, GoodTable}
-use Rattle.operations.proofs.RestsOn.{accepts}
 use Rattle.store.proofs.Tests.{passes}
-use Rattle.building.proofs.TableListed.{row-equation, test-passes, not-refused, both-accept}
+use Rattle.operations.proofs.TableListed.{row-equation, accepts, test-passes, not-refused, both-accept}
 
 -- ---- a row that is well formed, by its kind
 module _ (i : ℕ) (r : Row) (w : well-formed i r ≡ true) where

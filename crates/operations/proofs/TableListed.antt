@@ -9,9 +9,10 @@ use native.Mathlib.Decide.{ℕ-discrete}
 use borrow.Author.Tests.{eqb-true, eq-eqb}
 use lib.Dec.{eqb, ltb}
 use lib.ListN.{length}
 use Rattle.operations.specs.declared.answer.Built.{Built}
 use Rattle.operations.specs.declared.answer.Built.the-variants.{Handle, NotSound, NoHandle, NoWords, NotRows, TooManyRows, BadRow, OutOfLimits, NotListed, NoRoom}
+use Rattle.operations.specs.Answer.{built-number}
 use Rattle.operations.specs.Table.{same-equation, on-list, guard-listed, well-formed, fine, equation-fault, row-fault, rows-fault, table-fault}
 use Rattle.store.specs.declared.limits.Limits.{Limits}
 use Rattle.store.specs.Layout.{field-count, question-count, question}
 use Rattle.store.specs.Limits.{terms-within}
@@ -24,7 +25,6 @@ use Rattle.terms.specs.declared.term.TermLimits.{TermLimits}
 use Rattle.terms.specs.Meaning.{Valuation, truth, guard-truth}
 use Rattle.terms.specs.Simplify.{simplify}
 use Rattle.terms.specs.Words.{equation, term-of, allows}
-use Rattle.operations.proofs.RestsOn.{accepts}
 use Rattle.store.proofs.Tests.{passes}
 use Rattle.terms.proofs.Cases.{by-test}
 use Rattle.terms.proofs.Numbers as numbers
@@ -38,6 +38,10 @@ abbrev pub Listed : List ℕ → Row → Type 0
 Listed s r = r .kind ≡ 2 → guard-listed s (simplify (row-equation r)) ≡ true
 
 -- ---- the tests of a table
+-- "Number 0 is success."
+abbrev pub accepts : Built → Bool
+accepts a = eqb (built-number a) 0
+
 -- where the test fails there is a refusal
 pub test-passes : (t : Bool) (a b : Built) → accepts b ≡ false → accepts (cond t a b) ≡ true → (t ≡ true) × (accepts a ≡ true)
 test-passes true a b n e = (refl, e)

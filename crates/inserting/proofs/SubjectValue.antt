@@ -14,14 +14,14 @@ use Rattle.terms.specs.Meaning.{Valuation}
 use Rattle.walking.specs.declared.subject.Subject.{Subject}
 use Rattle.walking.specs.declared.subject.Subject.the-variants.{Table, Choice}
 use Rattle.walking.specs.Value.{choose-value, tree-value, subject-value}
-use Rattle.building.specs.SubjectMeaning.{subject-meaning}
+use Rattle.inserting.specs.SubjectMeaning.{subject-meaning}
 use Rattle.diagram.proofs.InsertTree.{Grown}
-use Rattle.operations.proofs.RestsOn.{accepts}
+use Rattle.operations.proofs.TableListed.{accepts}
 use Rattle.store.proofs.SoundFacts.{Sound}
 use Rattle.store.proofs.SoundTree.{falling}
 use Rattle.store.proofs.StoreWords.{question-agrees, tree-agrees}
-use Rattle.building.proofs.ValueKnown.{Known, SettledTo, known-table, known-choice}
-use Rattle.building.proofs.ValueRight.{Says, says-table, says-choice}
+use Rattle.inserting.proofs.ValueKnown.{Known, SettledTo, known-table, known-choice}
+use Rattle.inserting.proofs.ValueRight.{Says, says-table, says-choice}
 
 -- the table is one that build takes, or the three handles are handles of the store
 abbrev pub Taken : Limits → List ℕ → Subject → List ℕ → Type 0

@@ -23,17 +23,17 @@ use Rattle.terms.specs.Meaning.{Valuation}
 use Rattle.walking.specs.declared.subject.Subject.{Subject}
 use Rattle.walking.specs.Value.{subject-value}
 use Rattle.walking.specs.Walk.{place-parts, walk}
-use Rattle.building.specs.SubjectMeaning.{subject-meaning}
+use Rattle.inserting.specs.SubjectMeaning.{subject-meaning}
 use Rattle.diagram.proofs.FinishTree.{finish-ascending, finish-reduced}
 use Rattle.diagram.proofs.FinishTruth.{forces, yes-free, no-free}
 use Rattle.diagram.proofs.InsertTree.{Grown, insert-puts}
 use Rattle.store.proofs.SoundFacts.{Sound}
 use Rattle.store.proofs.StoreWords.{questions-agree, question-agrees}
-use Rattle.building.proofs.PartsInserted.{then-same, PartAfter, parts-inserted}
-use Rattle.building.proofs.SubjectValue.{Given, value-right, value-known, value-later}
-use Rattle.building.proofs.ValueKnown.{Known, Settled, SettledTo}
-use Rattle.building.proofs.ValueRight.{Says}
-use Rattle.building.proofs.WalkSteps.{walk-always, walk-never, walk-skips, walk-asks, finish-skips, finish-asks, leaf-inserted}
+use Rattle.inserting.proofs.PartsInserted.{then-same, PartAfter, parts-inserted}
+use Rattle.inserting.proofs.SubjectValue.{Given, value-right, value-known, value-later}
+use Rattle.inserting.proofs.ValueKnown.{Known, Settled, SettledTo}
+use Rattle.inserting.proofs.ValueRight.{Says}
+use Rattle.inserting.proofs.WalkSteps.{walk-always, walk-never, walk-skips, walk-asks, finish-skips, finish-asks, leaf-inserted}
 
 -- ---- stores that grow
 grown-same : {limits : Limits} {s : List ℕ} → Sound limits s → Grown limits s s

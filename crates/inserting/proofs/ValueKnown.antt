@@ -21,12 +21,11 @@ use Rattle.terms.specs.Meaning.{Valuation, truth}
 use Rattle.walking.specs.declared.subject.Subject.the-variants.{Choice}
 use Rattle.walking.specs.Value.{not-value, choose-value, and-value, tree-value, row-value, row-values, table-value, subject-value}
 use Rattle.facts.proofs.Decided.{decided}
-use Rattle.operations.proofs.RestsOn.{accepts}
 use Rattle.store.proofs.SoundFacts.{Sound}
 use Rattle.store.proofs.SoundTree.{tree-ascending}
 use Rattle.terms.proofs.Cases.{by-eq}
-use Rattle.building.proofs.TableListed.{row-equation, Listed, table-listed, same-simplified}
-use Rattle.building.proofs.ValueRight.{all-longer}
+use Rattle.operations.proofs.TableListed.{row-equation, Listed, accepts, table-listed, same-simplified}
+use Rattle.inserting.proofs.ValueRight.{all-longer}
 
 -- a value that is not open
 abbrev pub Known : Decision → Type 0

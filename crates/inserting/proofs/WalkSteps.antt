@@ -19,7 +19,7 @@ use Rattle.walking.specs.declared.subject.Subject.{Subject}
 use Rattle.walking.specs.Value.{subject-value}
 use Rattle.walking.specs.Walk.{place-parts, walk}
 use Rattle.diagram.proofs.FinishTruth.{finish-same, finish-constant}
-use Rattle.building.proofs.ValueKnown.{Known}
+use Rattle.inserting.proofs.ValueKnown.{Known}
 
 -- ---- the steps of a walk
 module _ (limits : Limits) (table : List ℕ) (subject : Subject) where
