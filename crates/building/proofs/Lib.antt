@@ -1,4 +1,1 @@
-pub mod ListWays
-pub mod CheckWays
-pub mod AddWays
 pub mod CallWays

@@ -1,3 +1,1 @@
-pub mod Parts
-pub mod Walked
 pub mod Choice

@@ -5,3 +5,4 @@ pub mod PartsInserted
 pub mod WalkSteps
 pub mod WalkInserts
 pub mod TableGood
+pub mod AddWays

@@ -1,1 +1,4 @@
-// The walk over what build, negate, join and choose take adds the finished diagram. All of it is in specs/ and proofs/.
+// Adding the finished diagram of what build, negate, join and choose take.
+mod adding;
+
+pub use adding::add;

@@ -1,3 +1,4 @@
+pub mod Refusals
 pub mod TableListed
 pub mod RestsOn
 pub mod MeaningAdded
