@@ -3,9 +3,10 @@ use mathlib.Core.Path.{_≡_, refl}
 use mathlib.Core.List.{[], _∷_}
 use lib.ListN.{replicate}
 use Rattle.diagram.specs.Finish.{same-tree, parts, finish}
-use Rattle.diagram.specs.Insert.{find-entry, with-entry, add-entry, place-entry, insert}
+use Rattle.diagram.specs.Insert.{with-entry, add-entry, place-entry, insert}
 use Rattle.diagram.specs.Questions.{questions-from}
 use Rattle.facts.specs.State.{plan, decide, spacing, some-sheet}
+use Rattle.index.specs.Entries.{first, is-entry}
 use Rattle.operations.specs.Operations.{added}
 use Rattle.operations.specs.Operations as operation
 use Rattle.operations.specs.Table.{on-list, well-formed, equation-fault, row-fault, rows-fault, table-fault}
@@ -28,5 +29,5 @@ use Rattle.witness.specs.Joined.{if-opened, if-built, joined-both-ways}
 pub both-accepted :
     joined-both-ways store-limits 2 (1 ∷ 0 ∷ 2 ∷ 0 ∷ []) (2 ∷ 1 ∷ 0 ∷ 0 ∷ []) (2 ∷ 2 ∷ 0 ∷ 0 ∷ []) (replicate 16 7)
     ≡ outcome (Both 4 4) (2 ∷ 2 ∷ 3 ∷ 1 ∷ 0 ∷ 2 ∷ 0 ∷ 1 ∷ 1 ∷ 0 ∷ 2 ∷ 1 ∷ 0 ∷ 1 ∷ 3 ∷ 0 ∷ [])
-unfolding if-opened if-built joined-both-ways open-store opening operation.join next follow opened-words same-tree parts finish find-entry with-entry add-entry place-entry insert questions-from plan decide spacing some-sheet added operation.build on-list well-formed equation-fault row-fault rows-fault table-fault question-fault list-fault all-below all-zero heading-sound entry-sound entries-differ sound tree-within row-truth row-truths is-simplified count lex simplify larger-left lowered settled allows
+unfolding if-opened if-built joined-both-ways open-store opening operation.join next follow opened-words same-tree parts finish first is-entry with-entry add-entry place-entry insert questions-from plan decide spacing some-sheet added operation.build on-list well-formed equation-fault row-fault rows-fault table-fault question-fault list-fault all-below all-zero heading-sound entry-sound entries-differ sound tree-within row-truth row-truths is-simplified count lex simplify larger-left lowered settled allows
 both-accepted = refl
