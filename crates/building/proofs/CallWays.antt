@@ -1,17 +1,17 @@
 -- What build, negate, join and choose are on each way through the code: soundness, then the table or the handles, then the walk, which adds the finished
--- diagram. Not a is if a then never else always, and a and b is if a then b else never.
+-- diagram. Not a is if a then never else always, and a and b is if a then b else never: the leaves are handles of every store.
 use Prim.Native.Nat.{ℕ, _+_, _≤_, _<_}
 use mathlib.Core.Path.{_≡_, refl, sym, ap, _∙_}
-use mathlib.Core.Bool.{Bool, true, false, cond, not, _&&_}
+use mathlib.Core.Bool.{Bool, true, false, cond, not, _&&_, and-true, and-false}
 use mathlib.Core.List.{List}
 use native.Mathlib.Omega.{arith}
-use borrow.Author.Tests.{ltb-true}
+use borrow.Author.Tests.{ltb-true, lt-ltb}
 use lib.Dec.{eqb, ltb}
 use lib.ListN.{length}
 use Rattle.index.specs.Capacity.{capacity}
 use Rattle.operations.specs.declared.answer.Built.{Built}
 use Rattle.operations.specs.declared.answer.Built.the-variants.{Handle, NotSound, NoHandle, NoWords, NotRows, TooManyRows, BadRow, OutOfLimits, NotListed, NoRoom}
-use Rattle.operations.specs.Operations.{added, add-meaning, build, negate, join, choose, unless-full}
+use Rattle.operations.specs.Operations.{added, add-meaning, is-handle, build, negate, join, choose, unless-full}
 use Rattle.operations.specs.Table.{table-fault}
 use Rattle.store.specs.declared.limits.Limits.{Limits}
 use Rattle.store.specs.Layout.{heading-length, used, leaves, entries-start}
@@ -24,21 +24,22 @@ use Rattle.terms.specs.Meaning.{Valuation}
 use Rattle.walking.specs.declared.subject.Subject.{Subject}
 use Rattle.walking.specs.declared.subject.Subject.the-variants.{Table, Choice}
 use Rattle.walking.specs.Ready.{FitLimits}
-use Rattle.building.specs.Choice.{choice, CanChoose}
-use Rattle.building.specs.SubjectMeaning.{subject-meaning}
-use Rattle.building.specs.Walked.{walked, CanAdd}
+use Rattle.building.specs.Choice.{are-handles, CanChoose}
+use Rattle.inserting.specs.SubjectMeaning.{choice, subject-meaning}
+use Rattle.inserting.specs.Walked.{walked, CanAdd}
 use denote.Enum.Declared.{tagOf}
 use types.Run.{OneOf, miss}
 use Rattle.operations.proofs.answer.Built.{the-type}
 use Rattle.operations.proofs.MeaningAdded.{finished-alike}
-use Rattle.operations.proofs.RestsOn.{accepts}
+use Rattle.operations.proofs.TableListed.{accepts}
 use Rattle.store.proofs.Handles.{leaf-stays}
 use Rattle.store.proofs.SoundFacts.{Sound, sound-says}
+use Rattle.store.proofs.Tests.{passes}
 use Rattle.walking.proofs.SoundWalkable.{store-limits-fit}
-use Rattle.building.proofs.CheckWays.{refusals}
-use Rattle.building.proofs.SubjectValue.{Given}
-use Rattle.building.proofs.TableGood.{good-table}
-use Rattle.building.proofs.WalkInserts.{walk-inserts}
+use Rattle.operations.proofs.Refusals.{refusals}
+use Rattle.inserting.proofs.SubjectValue.{Given}
+use Rattle.inserting.proofs.TableGood.{good-table}
+use Rattle.inserting.proofs.WalkInserts.{walk-inserts}
 
 -- ---- the walk adds the finished diagram
 walked-adds : {limits : Limits} {table : List ℕ} {subject : Subject} {s : List ℕ} → Sound limits s → Given limits table subject s
@@ -72,13 +73,42 @@ module _ (limits : Limits) (s : List ℕ) where
   same-added : (means others : Valuation → Bool) → ((v : Valuation) → means v ≡ others v) → add-meaning limits s means ≡ add-meaning limits s others
   same-added means others e = ap (λ t. added limits t s) (finished-alike s means others e)
 
-  not-added : (a : ℕ) → add-meaning limits s (choice s a 0 1) ≡ add-meaning limits s (λ v. not (meaning s a v))
-  not-added a = same-added (choice s a 0 1) (λ v. not (meaning s a v))
-      (λ v. (λ i. cond (meaning s a v) (never-means v i) (always-means v i)) ∙ is-not (meaning s a v))
+  leaf-handle : (leaf : ℕ) → leaf < leaves → is-handle s leaf ≡ true
+  leaf-handle leaf h = lt-ltb leaf (used s + leaves) (omega arith)
 
-  and-added : (a b : ℕ) → add-meaning limits s (choice s a b 0) ≡ add-meaning limits s (λ v. meaning s a v && meaning s b v)
-  and-added a b = same-added (choice s a b 0) (λ v. meaning s a v && meaning s b v)
-      (λ v. (λ i. cond (meaning s a v) (meaning s b v) (never-means v i)) ∙ is-and (meaning s a v) (meaning s b v))
+  -- the call, by its test and what it adds
+  abbrev tested : Bool → Outcome Built → Outcome Built
+  tested t o = cond (sound limits s) (cond t o (outcome NoHandle s)) (outcome NotSound s)
+
+  pub is-negated : (a : ℕ) {o : Outcome Built} → o ≡ choose limits a 0 1 s → o ≡ negate limits a s
+  unfolding choose negate
+  is-negated a e =
+      let adds = same-added (choice s a 0 1) (λ v. not (meaning s a v))
+      (λ v. (λ i. cond (meaning s a v) (never-means v i) (always-means v i)) ∙ is-not (meaning s a v)) in
+      let test : are-handles s a 0 1 ≡ is-handle s a =
+      simp (leaf-handle 0 (omega arith), leaf-handle 1 (omega arith), and-true) in
+      e ∙ (λ i. tested (test i) (adds i))
+
+  pub is-joined : (a b : ℕ) {o : Outcome Built} → o ≡ choose limits a b 0 s → o ≡ join limits a b s
+  unfolding choose join
+  is-joined a b e =
+      let adds = same-added (choice s a b 0) (λ v. meaning s a v && meaning s b v)
+      (λ v. (λ i. cond (meaning s a v) (meaning s b v) (never-means v i)) ∙ is-and (meaning s a v) (meaning s b v)) in
+      let test : are-handles s a b 0 ≡ (is-handle s a && is-handle s b) =
+      simp (leaf-handle 0 (omega arith), and-true) in
+      e ∙ (λ i. tested (test i) (adds i))
+
+-- ---- the test of three handles
+module _ (s : List ℕ) (a b c : ℕ) {x : Bool} (ex : x ≡ is-handle s a) where
+  pub no-first : x ≡ false → false ≡ are-handles s a b c
+  no-first d = rw (← ex, d)
+
+  module _ (d : x ≡ true) {y : Bool} (ey : y ≡ is-handle s b) where
+    pub no-second : y ≡ false → false ≡ are-handles s a b c
+    no-second f = rw (← ex, d, ← ey, f)
+
+    pub by-third : y ≡ true → {z : Bool} → z ≡ is-handle s c → z ≡ are-handles s a b c
+    by-third t ez = rw (← ex, d, ← ey, t) ez
 
 -- ---- the limits of every store
 pub entries-fit : {limits : Limits} → FitLimits limits → limits .entries ≤ capacity
@@ -126,14 +156,6 @@ module _ (limits : Limits) (s : List ℕ) {t : Bool} (et : t ≡ sound limits s)
     unfolding choose
     choose-unsound a b c = rw (← et, e) refl
 
-    pub join-unsound : (a b : ℕ) → outcome NotSound s ≡ join limits a b s
-    unfolding join
-    join-unsound a b = rw (← et, e) refl
-
-    pub negate-unsound : (a : ℕ) → outcome NotSound s ≡ negate limits a s
-    unfolding negate
-    negate-unsound a = rw (← et, e) refl
-
   module _ (e : t ≡ true) where
     sound-is : sound limits s ≡ true
     sound-is = sym et ∙ e
@@ -166,61 +188,23 @@ module _ (limits : Limits) (s : List ℕ) {t : Bool} (et : t ≡ sound limits s)
         builds eo = eo ∙ walked-adds (sound-says limits s sound-is) record { taken = taken } ∙ ap (by-fault limits s table) (sym en) ∙ build-is
 
     -- ---- handles
-    module _ (a : ℕ) {x : Bool} (ex : x ≡ ltb a (used s + leaves)) where
-      module _ (dx : x ≡ false) where
-        pub negate-none : outcome NoHandle s ≡ negate limits a s
-        unfolding negate
-        negate-none = rw (← et, e, ← ex, dx) refl
+    module _ (a b c : ℕ) {x : Bool} (ex : x ≡ are-handles s a b c) where
+      pub choose-none : x ≡ false → outcome NoHandle s ≡ choose limits a b c s
+      unfolding choose
+      choose-none d = rw (← et, e, ← ex, d) refl
 
-        pub join-no-first : (b : ℕ) → outcome NoHandle s ≡ join limits a b s
-        unfolding join
-        join-no-first b = rw (← et, e, ← ex, dx) refl
+      module _ (d : x ≡ true) where
+        pub can-choose : FitLimits limits → CanChoose limits a b c s
+        can-choose fit =
+            let all : are-handles s a b c ≡ true = sym ex ∙ d in
+            record {
+              fit = fit;
+              is-sound = sound-is;
+              first-in = ltb-true a (used s + leaves) (passes (is-handle s a) (λ f. rw f at all));
+              second-in = ltb-true b (used s + leaves) (passes (is-handle s b) (λ f. simp (f, and-false) at all));
+              third-in = ltb-true c (used s + leaves) (passes (is-handle s c) (λ f. simp (f, and-false) at all));
+            }
 
-        pub choose-no-first : (b c : ℕ) → outcome NoHandle s ≡ choose limits a b c s
+        pub chooses : {o : Outcome Built} → o ≡ add-meaning limits s (choice s a b c) → o ≡ choose limits a b c s
         unfolding choose
-        choose-no-first b c = rw (← et, e, ← ex, dx) refl
-
-      module _ (tx : x ≡ true) where
-        a-in : a < used s + leaves
-        a-in = ltb-true a (used s + leaves) (sym ex ∙ tx)
-
-        pub can-negate : FitLimits limits → CanChoose limits a 0 1 s
-        can-negate fit = record { fit = fit; is-sound = sound-is; first-in = a-in; second-in = omega arith; third-in = omega arith }
-
-        pub negates : {o : Outcome Built} → o ≡ add-meaning limits s (choice s a 0 1) → o ≡ negate limits a s
-        unfolding negate
-        negates eo = rw (← et, e, ← ex, tx) (eo ∙ not-added limits s a)
-
-        module _ (b : ℕ) {y : Bool} (ey : y ≡ ltb b (used s + leaves)) where
-          module _ (dy : y ≡ false) where
-            pub join-no-second : outcome NoHandle s ≡ join limits a b s
-            unfolding join
-            join-no-second = rw (← et, e, ← ex, tx, ← ey, dy) refl
-
-            pub choose-no-second : (c : ℕ) → outcome NoHandle s ≡ choose limits a b c s
-            unfolding choose
-            choose-no-second c = rw (← et, e, ← ex, tx, ← ey, dy) refl
-
-          module _ (ty : y ≡ true) where
-            b-in : b < used s + leaves
-            b-in = ltb-true b (used s + leaves) (sym ey ∙ ty)
-
-            pub can-join : FitLimits limits → CanChoose limits a b 0 s
-            can-join fit = record { fit = fit; is-sound = sound-is; first-in = a-in; second-in = b-in; third-in = omega arith }
-
-            pub joins : {o : Outcome Built} → o ≡ add-meaning limits s (choice s a b 0) → o ≡ join limits a b s
-            unfolding join
-            joins eo = rw (← et, e, ← ex, tx, ← ey, ty) (eo ∙ and-added limits s a b)
-
-            module _ (c : ℕ) {z : Bool} (ez : z ≡ ltb c (used s + leaves)) where
-              pub choose-no-third : z ≡ false → outcome NoHandle s ≡ choose limits a b c s
-              unfolding choose
-              choose-no-third dz = rw (← et, e, ← ex, tx, ← ey, ty, ← ez, dz) refl
-
-              module _ (tz : z ≡ true) where
-                pub can-choose : FitLimits limits → CanChoose limits a b c s
-                can-choose fit = record { fit = fit; is-sound = sound-is; first-in = a-in; second-in = b-in; third-in = ltb-true c (used s + leaves) (sym ez ∙ tz) }
-
-                pub chooses : {o : Outcome Built} → o ≡ add-meaning limits s (choice s a b c) → o ≡ choose limits a b c s
-                unfolding choose
-                chooses eo = rw (← et, e, ← ex, tx, ← ey, ty, ← ez, tz) eo
+        chooses eo = rw (← et, e, ← ex, d) eo

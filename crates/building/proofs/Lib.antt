@@ -1,12 +1,1 @@
-pub mod ValueRight
-pub mod TableListed
-pub mod ValueKnown
-pub mod SubjectValue
-pub mod PartsInserted
-pub mod WalkSteps
-pub mod WalkInserts
-pub mod ListWays
-pub mod CheckWays
-pub mod AddWays
-pub mod TableGood
 pub mod CallWays

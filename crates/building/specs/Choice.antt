@@ -1,19 +1,17 @@
--- Adding the diagram of if-then-else of three handles.
+-- Three handles of a sound store, of which if-then-else can be added.
 use Prim.Native.Nat.{ℕ, _+_, _<_}
 use mathlib.Core.Path.{_≡_}
-use mathlib.Core.Bool.{Bool, true, cond}
+use mathlib.Core.Bool.{Bool, true, _&&_}
 use mathlib.Core.List.{List}
+use Rattle.operations.specs.Operations.{is-handle}
 use Rattle.store.specs.declared.limits.Limits.{Limits}
 use Rattle.store.specs.Layout.{used, leaves}
-use Rattle.store.specs.Meaning.{meaning}
 use Rattle.store.specs.Sound.{sound}
-use Rattle.terms.specs.Meaning.{Valuation}
 use Rattle.walking.specs.Ready.{FitLimits}
 
-abbrev pub choice : List ℕ → ℕ → ℕ → ℕ → Valuation → Bool
-choice s a b c v = cond (meaning s a v) (meaning s b v) (meaning s c v)
+abbrev pub are-handles : List ℕ → ℕ → ℕ → ℕ → Bool
+are-handles s a b c = is-handle s a && is-handle s b && is-handle s c
 
--- three handles of a sound store
 pub record CanChoose (limits : Limits) (a b c : ℕ) (s : List ℕ) : Type 0 where
   pub fit : FitLimits limits
   pub is-sound : sound limits s ≡ true

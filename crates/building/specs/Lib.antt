@@ -1,4 +1,1 @@
-pub mod SubjectMeaning
-pub mod Parts
-pub mod Walked
 pub mod Choice

@@ -1,12 +1,16 @@
 // Build, negate, join and choose.
 ghost use mathlib.Core.Path.{_≡_};
-ghost use Rattle.building.specs.Choice.{choice, CanChoose};
+ghost use Prim.Native.Nat.{_≤_};
+ghost use lib.ListN.{length};
+ghost use Rattle.building.specs.Choice.{are-handles, CanChoose};
+ghost use Rattle.inserting.specs.SubjectMeaning.{choice};
 ghost use Rattle.operations.specs.Operations as operation;
+ghost use Rattle.store.specs.Layout as layout;
 ghost use Rattle.store.specs.Limits as limit;
 ghost use Rattle.store.specs.Outcome.{outcome};
 ghost use Rattle.walking.specs.Ready.{FitLimits};
-use crate::adding::add;
-use crate::checking::table_fault;
+use checking::table_fault;
+use inserting::add;
 use operations::Built;
 use soundness::is_sound;
 use store::Limits;
@@ -51,18 +55,27 @@ fn add_choice(limits: Limits, a: u32, b: u32, c: u32, store: &mut [u32]) -> Buil
     )
 }
 
+// Whether three handles are handles of the store.
+fn has_handles(s: &[u32], a: u32, b: u32, c: u32) -> bool
+    requires { ⌜ layout.heading-length ≤ length (now s) ⌝ }
+    ensures { λ r. ⌜ r ≡ are-handles (now (s .entry)) a b c ⌝ }
+{
+    if has_handle(s, a) {
+        if has_handle(s, b) {
+            return has_handle(s, c);
+        }
+    }
+    false
+}
+
 // Adds the diagram of if a then b else c within limits.
 pub fn choose_within(limits: Limits, a: u32, b: u32, c: u32, store: &mut [u32]) -> Built
     requires { ⌜ FitLimits limits ⌝ }
     ensures { λ r. ⌜ outcome r (now (store .exit)) ≡ operation.choose limits a b c (now (store .entry)) ⌝ }
 {
     if is_sound(limits, store) {
-        if has_handle(store, a) {
-            if has_handle(store, b) {
-                if has_handle(store, c) {
-                    return add_choice(limits, a, b, c, store);
-                }
-            }
+        if has_handles(store, a, b, c) {
+            return add_choice(limits, a, b, c, store);
         }
         return Built::NoHandle;
     }
@@ -74,15 +87,7 @@ pub fn join_within(limits: Limits, a: u32, b: u32, store: &mut [u32]) -> Built
     requires { ⌜ FitLimits limits ⌝ }
     ensures { λ r. ⌜ outcome r (now (store .exit)) ≡ operation.join limits a b (now (store .entry)) ⌝ }
 {
-    if is_sound(limits, store) {
-        if has_handle(store, a) {
-            if has_handle(store, b) {
-                return add_choice(limits, a, b, NEVER, store);
-            }
-        }
-        return Built::NoHandle;
-    }
-    Built::NotSound
+    choose_within(limits, a, b, NEVER, store)
 }
 
 // Adds the diagram of not a within limits: if a then never else always.
@@ -90,13 +95,7 @@ pub fn negate_within(limits: Limits, handle: u32, store: &mut [u32]) -> Built
     requires { ⌜ FitLimits limits ⌝ }
     ensures { λ r. ⌜ outcome r (now (store .exit)) ≡ operation.negate limits handle (now (store .entry)) ⌝ }
 {
-    if is_sound(limits, store) {
-        if has_handle(store, handle) {
-            return add_choice(limits, handle, NEVER, ALWAYS, store);
-        }
-        return Built::NoHandle;
-    }
-    Built::NotSound
+    choose_within(limits, handle, NEVER, ALWAYS, store)
 }
 
 // Builds the rule of a table.

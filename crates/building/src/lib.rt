@@ -1,11 +1,7 @@
 // Build, negate, join and choose.
-mod adding;
 mod answer;
 mod calls;
-mod checking;
-mod listing;
 
-pub use adding::add;
 pub use answer::built_number;
 pub use answer::built_result;
 pub use calls::build;
@@ -16,4 +12,3 @@ pub use calls::join;
 pub use calls::join_within;
 pub use calls::negate;
 pub use calls::negate_within;
-pub use checking::table_fault;

@@ -26,8 +26,10 @@ use Rattle.store.proofs.OpenSound.{opened-sound}
 use Rattle.store.proofs.SoundFacts.{Sound, sound-says, sound-from}
 use Rattle.store.proofs.Tests.{first-passes, second-passes}
 use Rattle.terms.proofs.Cases.{by-test, by-eq}
+use Rattle.operations.proofs.BuildCases.{build-cases}
 use Rattle.operations.proofs.MeaningAdded.{Later, later-same, later-on, Stands, stands-later, stands-means, stands-exact, never-stands, always-stands, Answered, answered-alike, meaning-added, rebuild-same, added-unchanged}
-use Rattle.operations.proofs.RestsOn.{Rests, rests-not, rests-and, rests-if, accepts, handle-rests, table-rests, rests-fields}
+use Rattle.operations.proofs.RestsOn.{Rests, rests-not, rests-and, rests-if, handle-rests, table-rests, rests-fields}
+use Rattle.operations.proofs.TableListed.{accepts}
 
 -- ---- what a call does to a sound store
 -- the test that the store is sound passes
@@ -51,31 +53,8 @@ handle-in : {limits : Limits} {s : List ℕ} → Sound limits s → (a : ℕ) �
 handle-in {s = s} snd a t = handle-rests snd a (ltb-true _ _ t)
 
 build-answered : {limits : Limits} {s : List ℕ} → Sound limits s → (table : List ℕ) → Answered limits s (rule-meaning table) (operation.build limits table s)
-unfolding operation.build
-build-answered {limits} {s} snd table = past-sound snd (Answered limits s (rule-meaning table)) _ (go (table-fault limits s table) refl)
-  where
-    go : (a : Built) → table-fault limits s table ≡ a → Answered limits s (rule-meaning table) (elim a as (λ _. Outcome Built) [
-      | Handle h ↦ add-meaning limits s (rule-meaning table)
-      | NotSound ↦ outcome NotSound s
-      | NoHandle ↦ outcome NoHandle s
-      | NoWords ↦ outcome NoWords s
-      | NotRows ↦ outcome NotRows s
-      | TooManyRows ↦ outcome TooManyRows s
-      | BadRow ↦ outcome BadRow s
-      | OutOfLimits ↦ outcome OutOfLimits s
-      | NotListed ↦ outcome NotListed s
-      | NoRoom ↦ outcome NoRoom s
-    ])
-    go (Handle h) e = meaning-added snd (table-rests limits s table h e)
-    go NotSound e = refused snd NotSound refl
-    go NoHandle e = refused snd NoHandle refl
-    go NoWords e = refused snd NoWords refl
-    go NotRows e = refused snd NotRows refl
-    go TooManyRows e = refused snd TooManyRows refl
-    go BadRow e = refused snd BadRow refl
-    go OutOfLimits e = refused snd OutOfLimits refl
-    go NotListed e = refused snd NotListed refl
-    go NoRoom e = refused snd NoRoom refl
+build-answered {limits} {s} snd table = build-cases snd table (Answered limits s (rule-meaning table))
+    (λ h e. meaning-added snd (table-rests limits s table h e)) (λ a _ n. refused snd a n)
 
 -- ---- the books
 -- at each pair's handle stands the finished diagram of its rule

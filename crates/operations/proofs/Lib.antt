@@ -1,3 +1,6 @@
+pub mod Refusals
+pub mod TableListed
+pub mod BuildCases
 pub mod RestsOn
 pub mod MeaningAdded
 pub mod HandleLaw

@@ -31,7 +31,8 @@ use Rattle.diagram.proofs.InsertAgain.{insert-again}
 use Rattle.diagram.proofs.InsertTree.{Inserted, insert-tree}
 use Rattle.store.proofs.SoundFacts.{Sound}
 use Rattle.store.proofs.SoundTree.{meaning-is-tree, same-tree, tree-never, tree-always}
-use Rattle.operations.proofs.RestsOn.{Rests, rests-alike, rests-constant, accepts}
+use Rattle.operations.proofs.RestsOn.{Rests, rests-alike, rests-constant}
+use Rattle.operations.proofs.TableListed.{accepts}
 
 -- ---- the questions of a store
 questions-length : (s : List ℕ) (left k : ℕ) → length (questions-from s left k) ≡ left

@@ -1,7 +1,7 @@
 -- The answers of a run are not refusals by default: the store of a run stays sound, and of a sound store no call says otherwise; and 51 is answered
 -- exactly if the new entries exceed the room, since inserting the finished diagram grows used by their number.
 use Prim.Native.Nat.{ℕ, zero, suc, _+_, _≤_, _<_, _%_}
-use mathlib.Core.Path.{_≡_, refl, sym, ap, _∙_}
+use mathlib.Core.Path.{_≡_, refl, sym, ap, _∙_, subst}
 use mathlib.Core.Logic.{_≢_, _↔_}
 use mathlib.Core.Bool.{Bool, true, false, cond, not, _&&_, true≢false}
 use mathlib.Core.List.{List}
@@ -37,9 +37,10 @@ use Rattle.terms.specs.Simplify.{simplify}
 use Rattle.terms.specs.Words.{equation, term-of, allows}
 use Rattle.diagram.proofs.InsertCount.{GrowsBy, insert-count}
 use Rattle.store.proofs.SoundFacts.{Sound, sound-from}
+use Rattle.operations.proofs.BuildCases.{build-cases}
 use Rattle.operations.proofs.HandleLaw.{opened-kept}
 use Rattle.operations.proofs.MeaningAdded.{finished-ascending, finished-reduced}
-use Rattle.operations.proofs.RestsOn.{accepts}
+use Rattle.operations.proofs.TableListed.{accepts}
 
 -- ---- 22
 -- an answer other than 22
@@ -117,31 +118,8 @@ module _ {limits : Limits} {s : List ℕ} (snd : Sound limits s) where
   handles-other false means = rw (sound-from limits s snd) refl
 
   build-other : (table : List ℕ) → Other (operation.build limits table s .answer)
-  unfolding operation.build
-  build-other table = rw (sound-from limits s snd) (go (table-fault limits s table) (table-other limits s table))
-    where
-      go : (a : Built) → Other a → Other ((elim a as (λ _. Outcome Built) [
-        | Handle h ↦ add-meaning limits s (rule-meaning table)
-        | NotSound ↦ outcome NotSound s
-        | NoHandle ↦ outcome NoHandle s
-        | NoWords ↦ outcome NoWords s
-        | NotRows ↦ outcome NotRows s
-        | TooManyRows ↦ outcome TooManyRows s
-        | BadRow ↦ outcome BadRow s
-        | OutOfLimits ↦ outcome OutOfLimits s
-        | NotListed ↦ outcome NotListed s
-        | NoRoom ↦ outcome NoRoom s
-      ]) .answer)
-      go (Handle h) p = added-other limits (finished-in s (rule-meaning table)) s
-      go NotSound p = p
-      go NoHandle p = p
-      go NoWords p = p
-      go NotRows p = p
-      go TooManyRows p = p
-      go BadRow p = p
-      go OutOfLimits p = p
-      go NotListed p = p
-      go NoRoom p = p
+  build-other table = build-cases snd table (λ o. Other (o .answer)) (λ _ _. added-other limits (finished-in s (rule-meaning table)) s)
+      (λ a e _. subst Other e (table-other limits s table))
 
   call-other : (c : Call) → Other (answer-to limits c s .answer)
   unfolding operation.negate operation.join operation.choose
@@ -189,3 +167,10 @@ module _ {limits : Limits} {s : List ℕ} (snd : Sound limits s) (means : Valuat
     | yes l ↦ absurd (true≢false (sym a ∙ ap (λ o. accepts (o .answer)) (full-refused l)))
     | no n ↦ fits-added (omega arith) .1
   ]
+
+-- "The last row is the rule. Its finished diagram alone is added, no other row's."
+pub build-grows : {limits : Limits} {s : List ℕ} → Sound limits s → (table : List ℕ) → accepts (operation.build limits table s .answer) ≡ true
+    → used (operation.build limits table s .words) ≡ used s + new-count s (finished-in s (rule-meaning table))
+build-grows {limits} {s} snd table = build-cases snd table
+    (λ o. accepts (o .answer) ≡ true → used (o .words) ≡ used s + new-count s (finished-in s (rule-meaning table)))
+    (λ _ _. accepted-grows snd (rule-meaning table)) (λ a _ n e. absurd (true≢false (sym e ∙ n)))

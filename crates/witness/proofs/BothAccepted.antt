@@ -7,6 +7,7 @@ use Rattle.diagram.specs.Insert.{with-entry, add-entry, place-entry, insert}
 use Rattle.diagram.specs.Questions.{questions-from}
 use Rattle.index.specs.Entries.{first, is-entry}
 use Rattle.facts.specs.State.{plan, decide, spacing, some-sheet}
+use Rattle.index.specs.Entries.{first, is-entry}
 use Rattle.operations.specs.Operations.{added}
 use Rattle.operations.specs.Operations as operation
 use Rattle.operations.specs.Table.{on-list, well-formed, equation-fault, row-fault, rows-fault, table-fault}

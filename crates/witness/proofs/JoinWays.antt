@@ -6,8 +6,8 @@ use mathlib.Core.List.{List, [], _∷_}
 use denote.Enum.Declared.{tagOf}
 use types.Run.{OneOf, miss}
 use lib.Dec.{eqb}
-use Rattle.building.proofs.CheckWays.{refusals}
 use Rattle.operations.proofs.answer.Built as built
+use Rattle.operations.proofs.Refusals.{refusals}
 use Rattle.operations.specs.declared.answer.Built.{Built}
 use Rattle.operations.specs.declared.answer.Built.the-variants.{Handle, NotSound, NoHandle, NoWords, NotRows, TooManyRows, BadRow, OutOfLimits as Outside, NotListed, NoRoom}
 use Rattle.operations.specs.Answer.{built-number}

@@ -1,0 +1,2 @@
+pub mod ListWays
+pub mod FaultWays

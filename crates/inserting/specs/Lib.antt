@@ -1,0 +1,2 @@
+pub mod SubjectMeaning
+pub mod Walked
