@@ -1,10 +1,10 @@
--- `words` is safe: each place that it reads is below the slice's length.
+-- `words` is safe and ends: the loop's place stays within its bound.
 use Prim.Native.Nat.{_-_, _≤_}
 use mathlib.Core.Path.{_≡_}
 use borrow.Author.Needs.{needs}
 use lib.ListN.{length}
-use Rattle.try_cases.proofs.words.Statement.{statement}
-use Rattle.try_cases.proofs.words.Tie as tie
+use Rattle.try_cases.proofs.printing.words.Statement.{statement}
+use Rattle.try_cases.proofs.printing.words.Tie as tie
 
 abbrev Inv-loop : tie.InvT-loop
 Inv-loop list i₀ i-end i = (i ≤ i-end) × (i-end ≡ length list)
@@ -12,11 +12,11 @@ Inv-loop list i₀ i-end i = (i ≤ i-end) × (i-end ≡ length list)
 abbrev μ-loop : tie.MeasureT-loop
 μ-loop list i₀ i-end i = i-end - i
 
-slice-aggregate-write-all : tie.Need-slice-aggregate-write-all Inv-loop μ-loop
-slice-aggregate-write-all c = search needs
+slice-aggregate-text : tie.Need-slice-aggregate-text Inv-loop μ-loop
+slice-aggregate-text c = search needs
 
-write-all-requires : tie.Need-write-all-requires Inv-loop μ-loop
-write-all-requires c κs = search needs
+text-requires : tie.Need-text-requires Inv-loop μ-loop
+text-requires c κs = search needs
 
 loop-holds : tie.Need-loop-holds Inv-loop μ-loop
 loop-holds c = search needs
@@ -48,8 +48,8 @@ words-spec =
     (tie.spec
     Inv-loop
     μ-loop
-    slice-aggregate-write-all
-    write-all-requires
+    slice-aggregate-text
+    text-requires
     loop-holds
     mul-word
     shared-slice-read-word

@@ -1,14 +1,14 @@
 -- `signed` is safe: minus a negative number of 32 bits is a natural number of 64.
 use borrow.Author.Needs.{needs}
 use Rattle.try_cases.proofs.Minus.{read-wide, read-minus, read-minus-natural, read-natural}
-use Rattle.try_cases.proofs.signed.Statement.{statement}
-use Rattle.try_cases.proofs.signed.Tie as tie
+use Rattle.try_cases.proofs.printing.signed.Statement.{statement}
+use Rattle.try_cases.proofs.printing.signed.Tie as tie
 
-slice-aggregate-write-all : tie.Need-slice-aggregate-write-all
-slice-aggregate-write-all c = search needs
+slice-aggregate-text : tie.Need-slice-aggregate-text
+slice-aggregate-text c = search needs
 
-write-all-requires : tie.Need-write-all-requires
-write-all-requires c κs = search needs
+text-requires : tie.Need-text-requires
+text-requires c κs = search needs
 
 cast-print-decimal : tie.Need-cast-print-decimal
 cast-print-decimal c = read-wide (c .before .before .before .fits .z)
@@ -38,8 +38,8 @@ pub signed-spec : {M : Type 1} → statement M
 signed-spec =
     tie.close
     (tie.spec
-    slice-aggregate-write-all
-    write-all-requires
+    slice-aggregate-text
+    text-requires
     cast-print-decimal
     sub-print-decimal
     cast-print-decimal-2

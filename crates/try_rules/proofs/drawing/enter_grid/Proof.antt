@@ -1,0 +1,54 @@
+-- `enter_grid` is safe and ends: the loop's place stays within its bound.
+use Prim.Native.Nat.{_-_, _≤_}
+use borrow.Author.Needs.{needs}
+use Rattle.try_rules.proofs.drawing.enter_grid.Statement.{statement}
+use Rattle.try_rules.proofs.drawing.enter_grid.Tie as tie
+
+abbrev Inv-loop : tie.InvT-loop
+Inv-loop store truths ids₀ number₀ number-end ids number = number ≤ number-end
+
+abbrev μ-loop : tie.MeasureT-loop
+μ-loop store truths ids₀ number₀ number-end ids number = number-end - number
+
+fields-requires : tie.Need-fields-requires Inv-loop μ-loop
+fields-requires c κs = search needs
+
+sheets-of-requires : tie.Need-sheets-of-requires Inv-loop μ-loop
+sheets-of-requires c κs = search needs
+
+loop-holds : tie.Need-loop-holds Inv-loop μ-loop
+loop-holds c = search needs
+
+truth-at-requires : tie.Need-truth-at-requires Inv-loop μ-loop
+truth-at-requires c κs = search needs
+
+enter-sheet-requires : tie.Need-enter-sheet-requires Inv-loop μ-loop
+enter-sheet-requires c κs = search needs
+
+add-number : tie.Need-add-number Inv-loop μ-loop
+add-number c = search needs
+
+loop-less : tie.Need-loop-less Inv-loop μ-loop
+loop-less c = search needs
+
+loop-again : tie.Need-loop-again Inv-loop μ-loop
+loop-again c = search needs
+
+returns : tie.Need-returns Inv-loop μ-loop
+returns c = search needs
+
+pub enter-grid-spec : {M : Type 1} → statement M
+enter-grid-spec =
+    tie.close
+    (tie.spec
+    Inv-loop
+    μ-loop
+    fields-requires
+    sheets-of-requires
+    loop-holds
+    truth-at-requires
+    enter-sheet-requires
+    add-number
+    loop-less
+    loop-again
+    returns)

@@ -1,0 +1,46 @@
+-- `is_new` is safe and ends: the loop's place stays within its bound.
+use Prim.Native.Nat.{_-_, _≤_}
+use borrow.Author.Needs.{needs}
+use Rattle.try_rules.proofs.sound.is_new.Statement.{statement}
+use Rattle.try_rules.proofs.sound.is_new.Tie as tie
+
+abbrev Inv-loop : tie.InvT-loop
+Inv-loop store entry i₀ i = i ≤ entry
+
+abbrev μ-loop : tie.MeasureT-loop
+μ-loop store entry i₀ i = entry - i
+
+loop-holds : tie.Need-loop-holds Inv-loop μ-loop
+loop-holds c = search needs
+
+same-entry-requires : tie.Need-same-entry-requires Inv-loop μ-loop
+same-entry-requires c κs = search needs
+
+returns : tie.Need-returns Inv-loop μ-loop
+returns c = search needs
+
+add-i : tie.Need-add-i Inv-loop μ-loop
+add-i c = search needs
+
+loop-less : tie.Need-loop-less Inv-loop μ-loop
+loop-less c = search needs
+
+loop-again : tie.Need-loop-again Inv-loop μ-loop
+loop-again c = search needs
+
+returns-2 : tie.Need-returns-2 Inv-loop μ-loop
+returns-2 c = search needs
+
+pub is-new-spec : {M : Type 1} → statement M
+is-new-spec =
+    tie.close
+    (tie.spec
+    Inv-loop
+    μ-loop
+    loop-holds
+    same-entry-requires
+    returns
+    add-i
+    loop-less
+    loop-again
+    returns-2)

@@ -1,0 +1,46 @@
+-- `print_refusals` is safe and ends: the loop's place stays within its bound.
+use Prim.Native.Nat.{_-_, _≤_}
+use borrow.Author.Needs.{needs}
+use Rattle.try_rules.proofs.tally.print_refusals.Statement.{statement}
+use Rattle.try_rules.proofs.tally.print_refusals.Tie as tie
+
+abbrev Inv-loop : tie.InvT-loop
+Inv-loop tally number₀ number = number ≤ 64
+
+abbrev μ-loop : tie.MeasureT-loop
+μ-loop tally number₀ number = 64 - number
+
+loop-holds : tie.Need-loop-holds Inv-loop μ-loop
+loop-holds c = search needs
+
+times-met-requires : tie.Need-times-met-requires Inv-loop μ-loop
+times-met-requires c κs = search needs
+
+print-refusal-requires : tie.Need-print-refusal-requires Inv-loop μ-loop
+print-refusal-requires c κs = search needs
+
+add-number : tie.Need-add-number Inv-loop μ-loop
+add-number c = search needs
+
+loop-less : tie.Need-loop-less Inv-loop μ-loop
+loop-less c = search needs
+
+loop-again : tie.Need-loop-again Inv-loop μ-loop
+loop-again c = search needs
+
+returns : tie.Need-returns Inv-loop μ-loop
+returns c = search needs
+
+pub print-refusals-spec : {M : Type 1} → statement M
+print-refusals-spec =
+    tie.close
+    (tie.spec
+    Inv-loop
+    μ-loop
+    loop-holds
+    times-met-requires
+    print-refusal-requires
+    add-number
+    loop-less
+    loop-again
+    returns)
