@@ -1,6 +1,5 @@
 // Calls of build, negate, join and choose, against the evaluator.
 use crate::chance::below;
-use crate::chance::once_in;
 use crate::drawing::Nodes;
 use crate::drawing::Truths;
 use crate::drawing::truth_at;

@@ -1,4 +1,5 @@
 // The plain evaluator: what is true of one sheet.
+ghost use Prim.Native.Nat.{_<_};
 use crate::layout::cell;
 use crate::layout::field;
 use crate::layout::left_of;
@@ -7,7 +8,6 @@ use crate::layout::question_of;
 use crate::layout::right_of;
 use crate::layout::steps;
 use crate::layout::yes_of;
-ghost use Prim.Native.Nat.{_<_};
 
 fn wide(word: u32) -> u64
     ensures { λ r. ⌜ r < 4294967296 ⌝ }

@@ -1,4 +1,5 @@
 // Simplify, against the evaluator: its refusal, the form of its question, and its truth at sheets.
+ghost use Prim.Native.Nat.{_<_, _^_};
 use crate::chance::below;
 use crate::evaluator::holds;
 use crate::faults::bad_term;
@@ -8,7 +9,6 @@ use crate::tally::Tally;
 use crate::tally::agree;
 use crate::tally::expect_number;
 use terms::Answer;
-ghost use Prim.Native.Nat.{_<_, _^_};
 
 // A sheet of small counts in all sixteen fields.
 fn throw_sheet(seed: &mut [u64; 1], sheet: &mut [u16; 16]) {
