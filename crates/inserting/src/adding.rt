@@ -1,8 +1,7 @@
 // Adding the diagram of a walk to a store.
 ghost use mathlib.Core.Path.{_≡_};
-ghost use mathlib.Core.List.{_++_};
-ghost use Prim.Native.Nat.{_+_, _-_, _*_, _≤_};
-ghost use lib.ListN.{length, take, replicate};
+ghost use Prim.Native.Nat.{_+_, _*_, _≤_};
+ghost use lib.ListN.{length};
 ghost use Rattle.inserting.specs.Walked as spec;
 ghost use Rattle.store.specs.Layout as layout;
 ghost use Rattle.store.specs.Outcome.{outcome};
@@ -13,23 +12,12 @@ use index::CAPACITY;
 use index::load;
 use operations::Built;
 use store::Limits;
+use store::clear_from;
 use store::entries_start;
 use store::wide;
 use walking::Goal;
 use walking::Subject;
 use walking::walk;
-
-// Writes zeros from a word on.
-fn clear_from(start: usize, store: &mut [u32])
-    requires { ⌜ start ≤ length (now store) ⌝ }
-    ensures { λ _. ⌜ now (store .exit) ≡ take start (now (store .entry)) ++ replicate (length (now (store .entry)) - start) 0 ⌝ }
-{
-    let mut i = start;
-    while i < store.len() {
-        store[i] = 0;
-        i += 1;
-    }
-}
 
 // Takes the entries after the first so many away.
 fn restore(store: &mut [u32], used: u32)

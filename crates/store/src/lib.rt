@@ -13,6 +13,7 @@ pub use limits::Limits;
 pub use limits::limits_of_store;
 pub use limits::terms_within;
 pub use opening::Opened;
+pub use opening::clear_from;
 pub use opening::list_fault;
 pub use opening::open;
 pub use opening::open_number;

@@ -136,7 +136,7 @@ fn write_list(list: &[u32], store: &mut [u32])
 }
 
 // Writes zeros from a word on.
-fn clear_from(start: usize, store: &mut [u32])
+pub fn clear_from(start: usize, store: &mut [u32])
     requires { ⌜ start ≤ length (now store) ⌝ }
     ensures { λ _. ⌜ now (store .exit) ≡ take start (now (store .entry)) ++ replicate (length (now (store .entry)) - start) 0 ⌝ }
 {
