@@ -13,9 +13,9 @@ use Rattle.operations.specs.declared.answer.Built.{Built}
 use Rattle.operations.specs.declared.answer.Built.the-variants.{Handle, NotSound, NoHandle, NoWords, NotRows, TooManyRows, BadRow, OutOfLimits, NotListed, NoRoom}
 use Rattle.operations.specs.Operations.{added, add-meaning, is-handle, build, negate, join, choose, unless-full}
 use Rattle.operations.specs.Table.{table-fault}
-use Rattle.store.specs.declared.limits.Limits.{Limits}
+use Rattle.terms.specs.declared.limits.Limits.{Limits}
 use Rattle.store.specs.Layout.{heading-length, used, leaves, entries-start}
-use Rattle.store.specs.Limits.{store-limits}
+use Rattle.terms.specs.Limits.{store-limits}
 use Rattle.store.specs.Meaning.{meaning}
 use Rattle.store.specs.Outcome.{Outcome, outcome}
 use Rattle.store.specs.Sound.{sound}
@@ -33,7 +33,8 @@ use Rattle.operations.proofs.answer.Built.{the-type}
 use Rattle.operations.proofs.MeaningAdded.{finished-alike}
 use Rattle.operations.proofs.TableListed.{accepts}
 use Rattle.store.proofs.Handles.{leaf-stays}
-use Rattle.store.proofs.SoundFacts.{Sound, sound-says}
+use Rattle.store.specs.SoundParts.{Sound}
+use Rattle.store.proofs.SoundFacts.{sound-says}
 use Rattle.store.proofs.Tests.{passes}
 use Rattle.walking.proofs.SoundWalkable.{store-limits-fit}
 use Rattle.operations.proofs.Refusals.{refusals}

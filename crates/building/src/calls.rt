@@ -6,16 +6,16 @@ ghost use Rattle.building.specs.Choice.{are-handles, CanChoose};
 ghost use Rattle.inserting.specs.SubjectMeaning.{choice};
 ghost use Rattle.operations.specs.Operations as operation;
 ghost use Rattle.store.specs.Layout as layout;
-ghost use Rattle.store.specs.Limits as limit;
+ghost use Rattle.terms.specs.Limits as limit;
 ghost use Rattle.store.specs.Outcome.{outcome};
 ghost use Rattle.walking.specs.Ready.{FitLimits};
 use checking::table_fault;
 use inserting::add;
 use operations::Built;
 use soundness::is_sound;
-use store::Limits;
 use store::has_handle;
-use store::limits_of_store;
+use terms::Limits;
+use terms::limits_of_store;
 use walking::Subject;
 
 // Adds the diagram of a rule table within limits.

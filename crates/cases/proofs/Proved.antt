@@ -12,7 +12,7 @@ use Rattle.examples.specs.Best.{counts-from, best}
 use Rattle.examples.specs.Example.{example}
 use Rattle.facts.specs.Least.{first-from, fixed}
 use Rattle.facts.specs.State.{plan, decide, spacing, some-sheet}
-use Rattle.sheets.specs.Read.{read-sheet}
+use Rattle.reading.specs.Read.{read-sheet}
 use Rattle.store.specs.Meaning.{next, follow}
 use Rattle.store.specs.Open.{question-fault, list-fault, opening, opened-words, open-store}
 use Rattle.store.specs.Sound.{all-below, all-zero, heading-sound, entry-sound, entries-differ, sound}

@@ -10,7 +10,7 @@ use Rattle.operations.specs.Handles.{build, Books, first-ledger, run}
 use Rattle.operations.specs.Operations.{added}
 use Rattle.operations.specs.Operations as operation
 use Rattle.operations.specs.Table.{on-list, well-formed, equation-fault, row-fault, rows-fault, table-fault}
-use Rattle.store.specs.Limits.{store-limits}
+use Rattle.terms.specs.Limits.{store-limits}
 use Rattle.store.specs.Open.{question-fault, list-fault, opened-words}
 use Rattle.store.specs.Sound.{all-below, all-zero, heading-sound, entry-sound, entries-differ, sound}
 use Rattle.store.specs.Tree.{tree-within}

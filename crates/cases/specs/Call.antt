@@ -8,15 +8,15 @@ use Rattle.examples.specs.Example as examples
 use Rattle.operations.specs.declared.answer.Built.{Built}
 use Rattle.operations.specs.Answer.{built-number, built-result}
 use Rattle.operations.specs.Operations as operation
-use Rattle.sheets.specs.Read.{read-sheet, read-number, read-result}
-use Rattle.store.specs.Limits.{store-limits}
+use Rattle.reading.specs.Read.{read-sheet, read-number, read-result}
+use Rattle.terms.specs.Limits.{store-limits}
 use Rattle.store.specs.Open.{open-number, open-store}
 use Rattle.store.specs.Outcome as specs
 use Rattle.tables.specs.WriteBack as tables
 use Rattle.tables.specs.WriteBack.{written-number, written-result}
 use Rattle.terms.specs.declared.simplification.Answer.{Answer}
 use Rattle.terms.specs.Simplify.{simplify-words, answer}
-use Rattle.terms.specs.Words.{term-limits}
+use Rattle.terms.specs.Limits.{term-limits}
 use Rattle.verdicts.specs.Verdict as verdicts
 use Rattle.verdicts.specs.Verdict.{verdict-number, verdict-result}
 

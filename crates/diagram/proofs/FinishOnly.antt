@@ -16,7 +16,8 @@ use Rattle.diagram.specs.Finish.{parts, finish}
 use Rattle.diagram.specs.Finished.{Finished, last, skipped-yes, skipped-no, asked, same-parts}
 use Rattle.facts.proofs.Decided.{free-fits, decided}
 use Rattle.diagram.proofs.FinishTree.{finish-cases}
-use Rattle.diagram.proofs.FinishTruth.{Settles, settles-forced, settles-asked, forces, yes-free, no-free}
+use Rattle.diagram.specs.Settles.{Settles}
+use Rattle.diagram.proofs.FinishTruth.{settles-forced, settles-asked, forces, yes-free, no-free}
 use Rattle.diagram.proofs.Trees.{parts-cases}
 
 -- ---- of consistent facts one decision is right

@@ -11,7 +11,7 @@ use Rattle.store.specs.Tree.{Tree, leaf, node, Ascending}
 use Rattle.terms.specs.declared.term.Equation.{Equation}
 use Rattle.terms.specs.Meaning.{Valuation}
 use Rattle.diagram.specs.Finish.{finish, answers-from}
-use Rattle.diagram.specs.Finished.{Path, ends, goes-yes, goes-no, Follows}
+use Rattle.diagram.specs.Paths.{Path, ends, goes-yes, goes-no, Follows, Followed}
 use Rattle.facts.proofs.Decided.{free-fits}
 use Rattle.diagram.proofs.FinishTree.{finish-cases, finish-ascending}
 use Rattle.diagram.proofs.FinishTruth.{answers-first, answers-later, yes-free, no-free}
@@ -25,10 +25,6 @@ follows-rests answers others least most (goes-yes {k = k} p) a e f =
     (e k (a .0) ∙ f .0, follows-rests answers others (suc k) most p (a .2) (λ j h. e j (omega (arith, a .0))) (f .1))
 follows-rests answers others least most (goes-no {k = k} p) a e f =
     (e k (a .0) ∙ f .0, follows-rests answers others (suc k) most p (a .3) (λ j h. e j (omega (arith, a .0))) (f .1))
-
--- some choice of counts that fits the facts follows the path
-abbrev Followed : List Equation → ℕ → List Fact → (t : Tree) → Path t → Type 0
-Followed qs k xs t p = (v : Valuation) × Fits xs v × Follows (answers-from k qs v) p
 
 module _ (q : Equation) (qs : List Equation) (k : ℕ) (xs : List Fact) (means : Valuation → Bool) where
   later-follows : (s : State) (v : Valuation) (p : Path (finish qs (k + 1) s means)) → Follows (answers-from (k + 1) qs v) p → Follows (answers-from k (q ∷ qs) v) p

@@ -16,15 +16,12 @@ use Rattle.facts.specs.State.{State, free, no-to, yes-to, state-of, decide, som
 use Rattle.store.specs.Tree.{leaf, tree-truth}
 use Rattle.terms.specs.declared.term.Equation.{Equation}
 use Rattle.terms.specs.Meaning.{Valuation, truth}
+use Rattle.diagram.specs.Settles.{Settles}
 use Rattle.diagram.specs.Finish.{parts, finish, answers-from}
 use Rattle.facts.proofs.Decided.{free-fits, fits-free, decided}
 use Rattle.terms.proofs.Cases.{by-test}
 use Rattle.diagram.proofs.FinishTree.{finish-cases, finish-ascending}
 use Rattle.diagram.proofs.Trees.{parts-cases, parts-truth, truth-rests}
-
--- where the facts hold, the meaning depends on the questions left only
-abbrev pub Settles : (Valuation → Bool) → List Equation → List Fact → Type 0
-Settles means qs xs = (v w : Valuation) → Fits xs v → Fits xs w → All (λ q. truth v q ≡ truth w q) qs → means v ≡ means w
 
 module _ (means : Valuation → Bool) (q : Equation) (qs : List Equation) (xs : List Fact) (settles : Settles means (q ∷ qs) xs) where
   pub settles-forced : (b : Bool) → ((v : Valuation) → Fits xs v → truth v q ≡ b) → Settles means qs xs

@@ -5,34 +5,34 @@ use mathlib.Core.Path.{_≡_, refl, sym, ap, _∙_}
 use mathlib.Core.List.{List}
 use native.Mathlib.Omega.{arith}
 use lib.Dec.{eqb}
-use Rattle.store.specs.declared.limits.Limits.{Limits}
+use Rattle.terms.specs.declared.limits.Limits.{Limits}
 use Rattle.store.specs.Layout.{used, entry, leaves}
 use Rattle.store.specs.Outcome.{outcome}
 use Rattle.store.specs.Tree.{Tree, tree}
 use Rattle.diagram.specs.declared.placing.Placed.the-variants.{At}
 use Rattle.diagram.specs.Insert.{place-entry, leaf-handle, insert}
 use Rattle.store.proofs.Handles.{by-handles}
-use Rattle.store.proofs.SoundFacts.{Sound}
+use Rattle.store.specs.SoundParts.{Sound}
 use Rattle.store.proofs.SoundTree.{falling, tree-leaf, tree-node, same-tree}
 use Rattle.terms.proofs.Cases.{by-eq}
 use Rattle.diagram.proofs.EntryPlaced.{place-cases}
-use Rattle.diagram.proofs.InsertTree.{tree-at}
+use Rattle.store.proofs.StoreGrown.{tree-at}
 
 leaf-again : (h : ℕ) → h < leaves → leaf-handle (eqb h 1) ≡ h
 leaf-again h l = by-eq (λ t. leaf-handle t ≡ h) h 1 (λ d. sym d) (λ d. omega arith)
 
 module _ {limits : Limits} {s : List ℕ} (snd : Sound limits s) where
   entry-again : (i : ℕ) → i < used s → place-entry limits s (entry s i) ≡ outcome (At (i + leaves)) s
-  entry-again i h = place-cases s (entry s i) limits (λ o. o ≡ outcome (At (i + leaves)) s)
+  entry-again i h = place-cases limits s (entry s i) (λ o. o ≡ outcome (At (i + leaves)) s)
       (λ j l d. ap (λ g. outcome (At g) s) (same-tree snd (j + leaves) (i + leaves) (omega arith) (omega arith) (tree-at snd j l d ∙ sym (tree-node snd i h))))
       (λ a _. absurd (a i h refl))
       (λ a _. absurd (a i h refl))
 
-  again : (h : ℕ) → h < used s + leaves → insert limits (tree s h) s ≡ outcome (At h) s
+  again : (h : ℕ) → h < used s + leaves → insert limits s (tree s h) ≡ outcome (At h) s
   unfolding insert
-  again = by-handles (falling snd) (λ h. insert limits (tree s h) s ≡ outcome (At h) s)
-      (λ h l. ap (λ t. insert limits t s) (tree-leaf s h l) ∙ ap (λ g. outcome (At g) s) (leaf-again h l))
-      (λ i h y n. ap (λ t. insert limits t s) (tree-node snd i h) ∙ rw (y, n) (entry-again i h))
+  again = by-handles (falling snd) (λ h. insert limits s (tree s h) ≡ outcome (At h) s)
+      (λ h l. ap (λ t. insert limits s t) (tree-leaf s h l) ∙ ap (λ g. outcome (At g) s) (leaf-again h l))
+      (λ i h y n. ap (λ t. insert limits s t) (tree-node snd i h) ∙ rw (y, n) (entry-again i h))
 
-  pub insert-again : (t : Tree) (h : ℕ) → h < used s + leaves → tree s h ≡ t → insert limits t s ≡ outcome (At h) s
-  insert-again t h l e = ap (λ x. insert limits x s) (sym e) ∙ again h l
+  pub insert-again : (t : Tree) (h : ℕ) → h < used s + leaves → tree s h ≡ t → insert limits s t ≡ outcome (At h) s
+  insert-again t h l e = ap (λ x. insert limits s x) (sym e) ∙ again h l

@@ -8,21 +8,27 @@ use mathlib.Core.List.{List, [], _∷_}
 use native.Mathlib.Omega.{arith}
 use native.Mathlib.Decide.{ℕ-discrete}
 use lib.ListN.{length}
-use Rattle.store.specs.declared.limits.Limits.{Limits}
-use Rattle.store.specs.Layout.{question-count, used, Entry, entry, leaves, room}
+use Rattle.terms.specs.declared.limits.Limits.{Limits}
+use Rattle.store.specs.declared.entries.Entry.{Entry}
+use Rattle.store.specs.Entries.{with-entry}
+use Rattle.store.specs.Layout.{question-count, used, entry, entry-of, leaves, room}
 use Rattle.store.specs.Outcome.{Outcome, outcome}
 use Rattle.store.specs.Tree.{Tree, leaf, node, tree, Ascending, Reduced}
 use Rattle.diagram.specs.declared.placing.Placed.{Placed}
 use Rattle.diagram.specs.declared.placing.Placed.the-variants.{At, Full}
 use Rattle.diagram.specs.Finish.{same-tree}
-use Rattle.diagram.specs.Insert.{an-entry, with-entry, place-entry, then-place, leaf-handle, insert, some-below, is-stored, is-among, collect, new-trees, new-count}
+use Rattle.diagram.specs.Insert.{place-entry, then-place, leaf-handle, insert, some-below, is-stored, is-among, collect, new-trees, new-count}
+use Rattle.diagram.specs.Inserted.{GrowsBy}
 use Rattle.store.proofs.Handles.{by-handle}
-use Rattle.store.proofs.SoundFacts.{Sound}
+use Rattle.store.specs.SoundParts.{MayStand, Sound}
 use Rattle.store.proofs.SoundTree.{falling, tree-leaf, tree-node, same-tree as one-handle}
 use Rattle.store.proofs.StoreWords.{questions-agree, tree-agrees}
 use Rattle.terms.proofs.Cases.{by-test}
-use Rattle.diagram.proofs.EntryPlaced.{Absent, place-cases, used-with, length-with, agree-with, room-agrees, MayStand}
-use Rattle.diagram.proofs.InsertTree.{tree-of, tree-at, tree-with, then-cases, node-tree, node-stands, insert-puts, insert-grows}
+use Rattle.diagram.proofs.EntryPlaced.{place-cases}
+use Rattle.store.proofs.EntryAdded.{used-added, length-added, agree-added, room-agrees, next-in}
+use Rattle.store.proofs.EntryFound.{Absent}
+use Rattle.store.proofs.StoreGrown.{tree-of, tree-at, tree-added}
+use Rattle.diagram.proofs.InsertTree.{then-cases, node-tree, node-stands, insert-puts, insert-grows}
 use Rattle.diagram.proofs.Trees.{same-tree-self, same-tree-says}
 
 -- ---- searches
@@ -59,9 +65,9 @@ module _ {limits : Limits} {s : List ℕ} (snd : Sound limits s) (e : Entry) whe
       let k = snd .entry-kept i l in
       let a : tree-of s (entry s i) ≡ tree-of s e = sym (tree-node snd i l) ∙ d in
       let q : entry s i .question ≡ e .question = cc in
-      let y : entry s i .yes-to ≡ e .yes-to = one-handle snd (entry s i .yes-to) (e .yes-to) (omega (arith, k .yes-below)) (f .yes-below) (cc) in
-      let n : entry s i .no-to ≡ e .no-to = one-handle snd (entry s i .no-to) (e .no-to) (omega (arith, k .no-below)) (f .no-below) (cc) in
-      new i l (λ j. record { question = q j; yes-to = y j; no-to = n j }))
+      let y : entry s i .yes ≡ e .yes = one-handle snd (entry s i .yes) (e .yes) (omega (arith, k .yes-below)) (f .yes-below) (cc) in
+      let n : entry s i .no ≡ e .no = one-handle snd (entry s i .no) (e .no) (omega (arith, k .no-below)) (f .no-below) (cc) in
+      new i l (λ j. record { question = q j; yes = y j; no = n j }))
 
   not-stored : MayStand s (used s) e → Absent s e → is-stored s (tree-of s e) ≡ false
   unfolding is-stored
@@ -69,15 +75,15 @@ module _ {limits : Limits} {s : List ℕ} (snd : Sound limits s) (e : Entry) whe
       by-test (λ t. same-tree (tree s h) (tree-of s e) ≡ t → t ≡ false) (same-tree (tree s h) (tree-of s e))
       (λ _ t. absurd (unlike f new h l (same-tree-says (tree s h) (tree-of s e) t))) (λ _ _. refl) refl)
 
-  stored-with : (f : MayStand s (used s) e) (new : Absent s e) (space : used s < room limits s) (t : Tree)
+  stored-added : (f : MayStand s (used s) e) (new : Absent s e) (space : used s < room limits s) (t : Tree)
       → is-stored (with-entry s e) t ≡ (is-stored s t || same-tree (tree-of s e) t)
   unfolding is-stored some-below
-  stored-with f new space t =
-      let more : used (with-entry s e) + leaves ≡ suc (used s + leaves) = omega (arith, used-with snd space e) in
+  stored-added f new space t =
+      let more : used (with-entry s e) + leaves ≡ suc (used s + leaves) = omega (arith, used-added s e (next-in snd space)) in
       ap (λ k. some-below k (λ h. same-tree (tree (with-entry s e) h) t)) more
       ∙ ap₂ _||_ (some-same (λ h. same-tree (tree (with-entry s e) h) t) (λ h. same-tree (tree s h) t) (used s + leaves)
-      (λ h l. ap (λ x. same-tree x t) (tree-agrees (agree-with snd space e) (falling snd) h l)))
-      (ap (λ x. same-tree x t) (tree-with snd e f new space))
+      (λ h l. ap (λ x. same-tree x t) (tree-agrees (agree-added s e) (falling snd) h l)))
+      (ap (λ x. same-tree x t) (tree-added snd e f new space))
 
 -- ---- the count so far
 -- the trees of s are those of s₀ and those collected, and each that was collected is one entry
@@ -111,52 +117,46 @@ module _ {limits : Limits} {s₀ s : List ℕ} (snd : Sound limits s) (e : Entry
   unfolding collect is-among
   place-counts =
       let t : Tree = tree-of s e in
-      place-cases s e limits (Counts limits s₀ (collect s₀ t xs))
+      place-cases limits s e (Counts limits s₀ (collect s₀ t xs))
       (λ i h d. rw (collect, sym (c .stored t) ∙ stored-at snd e i h d) (counts-at (i + leaves) c))
       (λ new space. rw (collect, sym (c .stored t) ∙ not-stored snd e f new) (counts-at (used s + leaves) record {
-        stored = λ z. stored-with snd e f new space z ∙ ap (λ b. b || same-tree t z) (c .stored z)
+        stored = λ z. stored-added snd e f new space z ∙ ap (λ b. b || same-tree t z) (c .stored z)
             ∙ or-assoc (is-stored s₀ z) (is-among z xs) (same-tree t z) ∙ ap (λ b. is-stored s₀ z || b) (or-comm (is-among z xs) (same-tree t z));
-        counted = omega (arith, used-with snd space e, c .counted);
-        same-room = room-agrees limits (agree-with snd space e) (length-with snd space e) ∙ c .same-room;
+        counted = omega (arith, used-added s e (next-in snd space), c .counted);
+        same-room = room-agrees limits (agree-added s e) (length-added s e) ∙ c .same-room;
       }))
       (λ new none. rw (collect, sym (c .stored t) ∙ not-stored snd e f new) (counts-full (omega (arith, c .counted, c .same-room))))
 
 insert-counts : {limits : Limits} {s₀ : List ℕ} (t : Tree) {s : List ℕ} (xs : List Tree) → Sound limits s → (least most : ℕ) → Ascending least most t → Reduced t
-    → 1 ≤ least → most ≤ question-count s → Collected limits s₀ s xs → Counts limits s₀ (new-trees s₀ t xs) (insert limits t s)
+    → 1 ≤ least → most ≤ question-count s → Collected limits s₀ s xs → Counts limits s₀ (new-trees s₀ t xs) (insert limits s t)
 unfolding insert new-trees
 insert-counts (leaf b) xs snd least most a r some listed c = counts-at (leaf-handle b) c
 insert-counts {limits} {s₀} (node k y n) {s} xs snd least most a r some listed c =
-    let o₁ = insert limits y s in
+    let o₁ = insert limits s y in
     let p₁ = insert-puts y snd (suc k) most (a .2) (r .1) (omega arith) listed in
     let c₁ = insert-counts y xs snd (suc k) most (a .2) (r .1) (omega arith) listed c in
     let ys = new-trees s₀ y xs in
     let zs = new-trees s₀ n ys in
     let all = collect s₀ (node k y n) zs in
-    then-cases (Counts limits s₀ all) o₁ (λ hy s₁. then-place (insert limits n s₁) (λ hn s₂. place-entry limits s₂ (an-entry k hy hn)))
+    then-cases (Counts limits s₀ all) o₁ (λ hy s₁. then-place (insert limits s₁ n) (λ hn s₂. place-entry limits s₂ (entry-of k hy hn)))
     (λ hy e₁.
-    let o₂ = insert limits n (o₁ .words) in
+    let o₂ = insert limits (o₁ .words) n in
     let listed₁ : most ≤ question-count (o₁ .words) = omega (arith, questions-agree (p₁ .grown .agree)) in
     let p₂ = insert-puts n (p₁ .grown .sound) (suc k) most (a .3) (r .2) (omega arith) listed₁ in
     let c₂ = insert-counts n ys (p₁ .grown .sound) (suc k) most (a .3) (r .2) (omega arith) listed₁ (c₁ .when-at hy e₁) in
-    then-cases (Counts limits s₀ all) o₂ (λ hn s₂. place-entry limits s₂ (an-entry k hy hn))
-    (λ hn e₂. subst (λ x. Counts limits s₀ (collect s₀ x zs) (place-entry limits (o₂ .words) (an-entry k hy hn))) (node-tree k p₁ p₂ hy hn e₁ e₂)
-    (place-counts (p₂ .grown .sound) (an-entry k hy hn) (node-stands k p₁ p₂ hy hn e₁ e₂ least most a r some listed) (c₂ .when-at hn e₂)))
+    then-cases (Counts limits s₀ all) o₂ (λ hn s₂. place-entry limits s₂ (entry-of k hy hn))
+    (λ hn e₂. subst (λ x. Counts limits s₀ (collect s₀ x zs) (place-entry limits (o₂ .words) (entry-of k hy hn))) (node-tree k p₁ p₂ hy hn e₁ e₂)
+    (place-counts (p₂ .grown .sound) (entry-of k hy hn) (node-stands k p₁ p₂ hy hn e₁ e₂ least most a r some listed) (c₂ .when-at hn e₂)))
     (λ e₂. counts-full (omega (arith, c₂ .when-full e₂, collect-more s₀ (node k y n) zs))))
     (λ e₁. counts-full (omega (arith, c₁ .when-full e₁, new-more s₀ n ys, collect-more s₀ (node k y n) zs)))
 
--- "So used grows by the number of different entries of the finished diagram that weren't there before.", and 51 is answered exactly if "used plus new
--- entries exceeds room".
-pub record GrowsBy (limits : Limits) (t : Tree) (s : List ℕ) (o : Outcome Placed) : Type 0 where
-  pub fits : used s + new-count s t ≤ room limits s → (h : ℕ) × (o .answer ≡ At h) × (used (o .words) ≡ used s + new-count s t)
-  pub full : room limits s < used s + new-count s t → o .answer ≡ Full
-
 module _ {limits : Limits} (t : Tree) {s : List ℕ} (snd : Sound limits s) (a : Ascending 1 (question-count s) t) (r : Reduced t) where
-  pub insert-count : GrowsBy limits t s (insert limits t s)
+  pub insert-count : GrowsBy limits s t (insert limits s t)
   unfolding is-among
   insert-count = go (o .answer) refl
     where
       o : Outcome Placed
-      o = insert limits t s
+      o = insert limits s t
 
       none : Collected limits s s []
       none = record { stored = λ x. sym (or-false (is-stored s x)); counted = omega arith; same-room = refl }
@@ -164,7 +164,7 @@ module _ {limits : Limits} (t : Tree) {s : List ℕ} (snd : Sound limits s) (a :
       counts : Counts limits s (new-trees s t []) o
       counts = insert-counts t [] snd 1 (question-count s) a r (omega arith) (omega arith) none
 
-      go : (p : Placed) → o .answer ≡ p → GrowsBy limits t s o
+      go : (p : Placed) → o .answer ≡ p → GrowsBy limits s t o
       go (At h) d =
           let c = counts .when-at h d in
           record { fits = λ _. (h, d, c .counted); full = λ l. absurd (omega (arith, c .counted, c .same-room, insert-grows t snd a r .sound .used-in)) }

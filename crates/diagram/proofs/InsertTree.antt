@@ -5,94 +5,54 @@ use mathlib.Core.Path.{_≡_, refl, sym, ap, ap₂, _∙_, subst}
 use mathlib.Core.Bool.{true, false}
 use mathlib.Core.List.{List}
 use native.Mathlib.Omega.{arith}
-use lib.ListN.{length}
-use Rattle.terms.specs.Meaning.{Valuation}
-use Rattle.store.specs.declared.limits.Limits.{Limits}
-use Rattle.store.specs.Layout.{field-count, question-count, question, used, Entry, entry, leaves, room}
-use Rattle.store.specs.Meaning.{meaning}
-use Rattle.store.specs.Outcome.{Outcome, outcome}
-use Rattle.store.specs.Tree.{Tree, leaf, node, tree, Ascending, Reduced}
 use Rattle.diagram.specs.declared.placing.Placed.{Placed}
 use Rattle.diagram.specs.declared.placing.Placed.the-variants.{At, Full}
-use Rattle.diagram.specs.Insert.{an-entry, with-entry, place-entry, then-place, insert}
-use Rattle.store.proofs.SoundFacts.{Sound}
+use Rattle.diagram.specs.Insert.{place-entry, then-place, insert}
+use Rattle.diagram.specs.Inserted.{Inserted}
+use Rattle.store.specs.declared.entries.Entry.{Entry}
+use Rattle.store.specs.Grown.{Grown}
+use Rattle.store.specs.Layout.{question-count, used, entry, entry-of, leaves}
+use Rattle.store.specs.Outcome.{Outcome, outcome}
+use Rattle.store.specs.SoundParts.{MayStand, Sound}
+use Rattle.store.specs.Tree.{Tree, leaf, node, tree, Ascending, Reduced}
+use Rattle.terms.specs.declared.limits.Limits.{Limits}
+use Rattle.diagram.proofs.EntryPlaced.{place-cases}
+use Rattle.store.proofs.EntryAdded.{used-added, next-in}
 use Rattle.store.proofs.Handles.{by-handle}
 use Rattle.store.proofs.SoundTree.{falling, tree-node, tree-never, tree-always}
-use Rattle.store.proofs.StoreWords.{Agree, fields-agree, questions-agree, question-agrees, tree-agrees, meaning-agrees}
-use Rattle.diagram.proofs.EntryPlaced.{Absent, place-cases, length-with, used-with, agree-with, entry-with, room-agrees, MayStand, sound-with}
-
--- ---- stores that grow
--- the store s′ is s with entries after its last
-pub record Grown (limits : Limits) (s s′ : List ℕ) : Type 0 where
-  pub sound : Sound limits s′
-  pub agree : Agree s s′ (used s)
-  pub grows : used s ≤ used s′
-  pub length-kept : length s′ ≡ length s
-
-stays : {limits : Limits} {s : List ℕ} → Sound limits s → Grown limits s s
-stays snd = record { sound = snd; agree = record { word = λ k h n. refl }; grows = omega arith; length-kept = refl }
-
-grows-on : {limits : Limits} {s s₁ s₂ : List ℕ} → Grown limits s s₁ → Grown limits s₁ s₂ → Grown limits s s₂
-grows-on f g = record {
-  sound = g .sound;
-  agree = record { word = λ k h n. g .agree .word k (omega (arith, questions-agree (f .agree))) n ∙ f .agree .word k h n };
-  grows = omega arith;
-  length-kept = g .length-kept ∙ f .length-kept;
-}
+use Rattle.store.proofs.StoreGrown.{grown-same, grown-on, tree-of, tree-at, grown-added, tree-added}
+use Rattle.store.proofs.StoreWords.{fields-agree, questions-agree, question-agrees, tree-agrees, meaning-agrees}
 
 -- ---- what is placed
 -- the words are the store grown, and at the handle, if there is one, stands the tree
-pub record Puts (limits : Limits) (t : Tree) (s : List ℕ) (o : Outcome Placed) : Type 0 where
+pub record Puts (limits : Limits) (s : List ℕ) (t : Tree) (o : Outcome Placed) : Type 0 where
   pub grown : Grown limits s (o .words)
   pub handle-in : (h : ℕ) → o .answer ≡ At h → h < used (o .words) + leaves
   pub stands : (h : ℕ) → o .answer ≡ At h → tree (o .words) h ≡ t
 
-puts-at : {limits : Limits} {t : Tree} {s s′ : List ℕ} (h : ℕ) → Grown limits s s′ → h < used s′ + leaves → tree s′ h ≡ t → Puts limits t s (outcome (At h) s′)
+puts-at : {limits : Limits} {t : Tree} {s s′ : List ℕ} (h : ℕ) → Grown limits s s′ → h < used s′ + leaves → tree s′ h ≡ t → Puts limits s t (outcome (At h) s′)
 puts-at {limits} {t} {s} {s′} h g l e = record {
   grown = g;
   handle-in = λ j p. let d : h ≡ j = cc in omega arith;
   stands = λ j p. let d : h ≡ j = cc in subst (λ x. tree s′ x ≡ t) d e;
 }
 
-puts-full : {limits : Limits} {t : Tree} {s s′ : List ℕ} → Grown limits s s′ → Puts limits t s (outcome Full s′)
+puts-full : {limits : Limits} {t : Tree} {s s′ : List ℕ} → Grown limits s s′ → Puts limits s t (outcome Full s′)
 puts-full g = record {
   grown = g;
   handle-in = λ h p. let z : _≡_ {A = ℕ} 0 1 = cc in absurd (omega arith);
   stands = λ h p. let z : _≡_ {A = ℕ} 0 1 = cc in absurd (omega arith);
 }
 
-puts-after : {limits : Limits} {t t′ : Tree} {s s′ : List ℕ} {o : Outcome Placed} → Grown limits s s′ → t′ ≡ t → Puts limits t′ s′ o → Puts limits t s o
-puts-after g e p = record { grown = grows-on g (p .grown); handle-in = p .handle-in; stands = λ h a. p .stands h a ∙ e }
+puts-after : {limits : Limits} {t t′ : Tree} {s s′ : List ℕ} {o : Outcome Placed} → Grown limits s s′ → t′ ≡ t → Puts limits s′ t′ o → Puts limits s t o
+puts-after g e p = record { grown = grown-on g (p .grown); handle-in = p .handle-in; stands = λ h a. p .stands h a ∙ e }
 
 -- ---- an entry
--- the tree of an entry
-abbrev pub tree-of : List ℕ → Entry → Tree
-tree-of s e = node (e .question) (tree s (e .yes-to)) (tree s (e .no-to))
-
-pub tree-at : {limits : Limits} {s : List ℕ} → Sound limits s → (i : ℕ) → i < used s → {e : Entry} → entry s i ≡ e → tree s (i + leaves) ≡ tree-of s e
-tree-at {s = s} snd i h d = tree-node snd i h ∙ ap (tree-of s) d
-
-module _ {limits : Limits} {s : List ℕ} (snd : Sound limits s) (e : Entry) (f : MayStand s (used s) e) where
-  module _ (new : Absent s e) (space : used s < room limits s) where
-    pub grown-with : Grown limits s (with-entry s e)
-    grown-with = record {
-      sound = sound-with snd space e f new;
-      agree = agree-with snd space e;
-      grows = omega (arith, used-with snd space e);
-      length-kept = length-with snd space e;
-    }
-
-    pub tree-with : tree (with-entry s e) (used s + leaves) ≡ tree-of s e
-    tree-with =
-        let old : (h : ℕ) → h < used s + leaves → tree (with-entry s e) h ≡ tree s h = tree-agrees (agree-with snd space e) (falling snd) in
-        tree-at (grown-with .sound) (used s) (omega (arith, used-with snd space e)) (entry-with snd space e)
-        ∙ ap₂ (node (e .question)) (old (e .yes-to) (f .yes-below)) (old (e .no-to) (f .no-below))
-
-  place-puts : Puts limits (tree-of s e) s (place-entry limits s e)
-  place-puts = place-cases s e limits (Puts limits (tree-of s e) s)
-      (λ i h d. puts-at (i + leaves) (stays snd) (omega arith) (tree-at snd i h d))
-      (λ new space. puts-at (used s + leaves) (grown-with new space) (omega (arith, used-with snd space e)) (tree-with new space))
-      (λ _ _. puts-full (stays snd))
+place-puts : {limits : Limits} {s : List ℕ} → Sound limits s → (e : Entry) → MayStand s (used s) e → Puts limits s (tree-of s e) (place-entry limits s e)
+place-puts {limits} {s} snd e f = place-cases limits s e (Puts limits s (tree-of s e))
+    (λ i h d. puts-at (i + leaves) (grown-same snd) (omega arith) (tree-at snd i h d))
+    (λ new space. puts-at (used s + leaves) (grown-added snd e f new space) (omega (arith, used-added s e (next-in snd space))) (tree-added snd e f new space))
+    (λ _ _. puts-full (grown-same snd))
 
 -- ---- a diagram
 -- A claim about the next step holds if it holds at each handle that the step before may give, and where that found no room.
@@ -115,7 +75,7 @@ rises {s = s} snd least most = by-handle (used s) (λ h. Ascending least most (t
     subst (λ j. least ≤ entry s j .question) z (first .0))
 
 -- both parts of a node were added: its entry may stand after the last, and its tree is the node
-module _ {limits : Limits} {s : List ℕ} (k : ℕ) {y n : Tree} {o₁ o₂ : Outcome Placed} (p₁ : Puts limits y s o₁) (p₂ : Puts limits n (o₁ .words) o₂)
+module _ {limits : Limits} {s : List ℕ} (k : ℕ) {y n : Tree} {o₁ o₂ : Outcome Placed} (p₁ : Puts limits s y o₁) (p₂ : Puts limits (o₁ .words) n o₂)
     (hy hn : ℕ) (e₁ : o₁ .answer ≡ At hy) (e₂ : o₂ .answer ≡ At hn) where
   yes-in : hy < used (o₂ .words) + leaves
   yes-in = omega (arith, p₁ .handle-in hy e₁, p₂ .grown .grows)
@@ -123,11 +83,11 @@ module _ {limits : Limits} {s : List ℕ} (k : ℕ) {y n : Tree} {o₁ o₂ : Ou
   yes-tree : tree (o₂ .words) hy ≡ y
   yes-tree = tree-agrees (p₂ .grown .agree) (falling (p₁ .grown .sound)) hy (p₁ .handle-in hy e₁) ∙ p₁ .stands hy e₁
 
-  pub node-tree : tree-of (o₂ .words) (an-entry k hy hn) ≡ node k y n
+  pub node-tree : tree-of (o₂ .words) (entry-of k hy hn) ≡ node k y n
   node-tree = ap₂ (node k) yes-tree (p₂ .stands hn e₂)
 
   pub node-stands : (least most : ℕ) → Ascending least most (node k y n) → Reduced (node k y n) → 1 ≤ least → most ≤ question-count s
-      → MayStand (o₂ .words) (used (o₂ .words)) (an-entry k hy hn)
+      → MayStand (o₂ .words) (used (o₂ .words)) (entry-of k hy hn)
   node-stands least most a r some listed =
       record {
         asks-some = omega (arith, a .0);
@@ -140,45 +100,29 @@ module _ {limits : Limits} {s : List ℕ} (k : ℕ) {y n : Tree} {o₁ o₂ : Ou
       }
 
 pub insert-puts : {limits : Limits} (t : Tree) {s : List ℕ} → Sound limits s → (least most : ℕ) → Ascending least most t → Reduced t → 1 ≤ least → most ≤ question-count s
-    → Puts limits t s (insert limits t s)
+    → Puts limits s t (insert limits s t)
 unfolding insert
-insert-puts (leaf true) {s} snd least most a r some listed = puts-at 1 (stays snd) (omega arith) (tree-always s)
-insert-puts (leaf false) {s} snd least most a r some listed = puts-at 0 (stays snd) (omega arith) (tree-never s)
+insert-puts (leaf true) {s} snd least most a r some listed = puts-at 1 (grown-same snd) (omega arith) (tree-always s)
+insert-puts (leaf false) {s} snd least most a r some listed = puts-at 0 (grown-same snd) (omega arith) (tree-never s)
 insert-puts {limits} (node k y n) {s} snd least most a r some listed =
-    let o₁ = insert limits y s in
+    let o₁ = insert limits s y in
     let p₁ = insert-puts y snd (suc k) most (a .2) (r .1) (omega arith) listed in
-    then-cases (Puts limits (node k y n) s) o₁ (λ hy s₁. then-place (insert limits n s₁) (λ hn s₂. place-entry limits s₂ (an-entry k hy hn)))
+    then-cases (Puts limits s (node k y n)) o₁ (λ hy s₁. then-place (insert limits s₁ n) (λ hn s₂. place-entry limits s₂ (entry-of k hy hn)))
     (λ hy e₁.
-    let o₂ = insert limits n (o₁ .words) in
+    let o₂ = insert limits (o₁ .words) n in
     let p₂ = insert-puts n (p₁ .grown .sound) (suc k) most (a .3) (r .2) (omega arith) (omega (arith, questions-agree (p₁ .grown .agree))) in
-    then-cases (Puts limits (node k y n) s) o₂ (λ hn s₂. place-entry limits s₂ (an-entry k hy hn))
-    (λ hn e₂. puts-after (grows-on (p₁ .grown) (p₂ .grown)) (node-tree k p₁ p₂ hy hn e₁ e₂)
-    (place-puts (p₂ .grown .sound) (an-entry k hy hn) (node-stands k p₁ p₂ hy hn e₁ e₂ least most a r some listed)))
-    (λ _. puts-full (grows-on (p₁ .grown) (p₂ .grown))))
+    then-cases (Puts limits s (node k y n)) o₂ (λ hn s₂. place-entry limits s₂ (entry-of k hy hn))
+    (λ hn e₂. puts-after (grown-on (p₁ .grown) (p₂ .grown)) (node-tree k p₁ p₂ hy hn e₁ e₂)
+    (place-puts (p₂ .grown .sound) (entry-of k hy hn) (node-stands k p₁ p₂ hy hn e₁ e₂ least most a r some listed)))
+    (λ _. puts-full (grown-on (p₁ .grown) (p₂ .grown))))
     (λ _. puts-full (p₁ .grown))
 
 -- ---- the diagram is added
-pub record Inserted (limits : Limits) (t : Tree) (s : List ℕ) (h : ℕ) (s′ : List ℕ) : Type 0 where
-  pub sound : Sound limits s′
-  pub handle-in : h < used s′ + leaves
-  -- the tree of the handle is the diagram
-  pub stands : tree s′ h ≡ t
-  -- an older handle keeps its tree and its meaning
-  pub older-tree : (g : ℕ) → g < used s + leaves → tree s′ g ≡ tree s g
-  pub older-meaning : (g : ℕ) → g < used s + leaves → (v : Valuation) → meaning s′ g v ≡ meaning s g v
-  pub agree : Agree s s′ (used s)
-  pub grows : used s ≤ used s′
-  pub room-kept : room limits s′ ≡ room limits s
-  pub fields-kept : field-count s′ ≡ field-count s
-  pub questions-kept : question-count s′ ≡ question-count s
-  pub question-kept : (k : ℕ) → question s′ k ≡ question s k
-  pub length-kept : length s′ ≡ length s
-
 module _ {limits : Limits} (t : Tree) {s : List ℕ} (snd : Sound limits s) (a : Ascending 1 (question-count s) t) (r : Reduced t) where
-  from-one : Puts limits t s (insert limits t s)
+  from-one : Puts limits s t (insert limits s t)
   from-one = insert-puts t snd 1 (question-count s) a r (omega arith) (omega arith)
 
-  pub insert-tree : (h : ℕ) → insert limits t s .answer ≡ At h → Inserted limits t s h (insert limits t s .words)
+  pub insert-tree : (h : ℕ) → insert limits s t .answer ≡ At h → Inserted limits s t h (insert limits s t .words)
   insert-tree h e =
       let g = from-one .grown in
       record {
@@ -189,7 +133,6 @@ module _ {limits : Limits} (t : Tree) {s : List ℕ} (snd : Sound limits s) (a :
         older-meaning = meaning-agrees (g .agree) (falling snd);
         agree = g .agree;
         grows = g .grows;
-        room-kept = room-agrees limits (g .agree) (g .length-kept);
         fields-kept = fields-agree (g .agree);
         questions-kept = questions-agree (g .agree);
         question-kept = question-agrees (g .agree);
@@ -197,5 +140,5 @@ module _ {limits : Limits} (t : Tree) {s : List ℕ} (snd : Sound limits s) (a :
       }
 
   -- Where the store was full too, the words are those before but for word 2 and what stands after the last entry.
-  pub insert-grows : Grown limits s (insert limits t s .words)
+  pub insert-grows : Grown limits s (insert limits s t .words)
   insert-grows = from-one .grown

@@ -3,6 +3,7 @@ pub mod FinishTree
 pub mod FinishTruth
 pub mod FinishOnly
 pub mod FinishPaths
+pub mod QuestionList
 pub mod EntryPlaced
 pub mod InsertTree
 pub mod InsertAgain

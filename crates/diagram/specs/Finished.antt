@@ -27,15 +27,3 @@ pub data Finished (means : Valuation → Bool) : List Equation → ℕ → List 
   same-parts : {q : Equation} {qs : List Equation} {k : ℕ} {xs : List Fact} {t : Tree}
       → Forces xs q Open → Finished means qs (k + 1) (fact q true ∷ xs) t → Finished means qs (k + 1) (fact q false ∷ xs) t
       → Finished means (q ∷ qs) k xs t
-
--- A path through a diagram, to a leaf.
-pub data Path : Tree → Type 0 where
-  ends : {b : Bool} → Path (leaf b)
-  goes-yes : {k : ℕ} {y n : Tree} → Path y → Path (node k y n)
-  goes-no : {k : ℕ} {y n : Tree} → Path n → Path (node k y n)
-
--- the answers lead along the path
-abbrev pub Follows : (ℕ → Bool) → {t : Tree} → Path t → Type 0
-Follows answers ends = Unit {0}
-Follows answers (goes-yes {k = k} p) = (answers k ≡ true) × Follows answers p
-Follows answers (goes-no {k = k} p) = (answers k ≡ false) × Follows answers p

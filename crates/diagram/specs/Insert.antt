@@ -1,27 +1,19 @@
 -- Adding a diagram to a store: "New entries are added with the yes part's first, then the no part's, then the entry itself; one already present
 -- is used again."
-use Prim.Native.Nat.{ℕ, zero, suc, _+_, _*_}
+use Prim.Native.Nat.{ℕ, zero, suc, _+_}
 use mathlib.Core.Bool.{Bool, true, false, cond, _||_}
 use mathlib.Core.List.{List, [], _∷_}
 use lib.Dec.{ltb}
-use lib.ListN.{length, set}
-use Rattle.index.specs.Entries.{find-entry}
-use Rattle.store.specs.declared.limits.Limits.{Limits}
-use Rattle.store.specs.Layout.{Entry, used, entries-start, leaves, room}
+use lib.ListN.{length}
+use Rattle.store.specs.Entries.{find-entry, with-entry}
+use Rattle.terms.specs.declared.limits.Limits.{Limits}
+use Rattle.store.specs.declared.entries.Entry.{Entry}
+use Rattle.store.specs.Layout.{used, leaves, entry-of, room}
 use Rattle.store.specs.Outcome.{Outcome, outcome}
 use Rattle.store.specs.Tree.{Tree, leaf, node, tree}
 use Rattle.diagram.specs.declared.placing.Placed.{Placed}
 use Rattle.diagram.specs.declared.placing.Placed.the-variants.{At, Full}
 use Rattle.diagram.specs.Finish.{same-tree}
-
-abbrev pub an-entry : ℕ → ℕ → ℕ → Entry
-an-entry k y n = record { question = k; yes-to = y; no-to = n }
-
--- the words with the entry after the last
-unfoldable pub with-entry : List ℕ → Entry → List ℕ
-with-entry s e =
-    let at = entries-start s + 3 * used s in
-    set (set (set (set s at (e .question)) (at + 1) (e .yes-to)) (at + 2) (e .no-to)) 2 (used s + 1)
 
 -- an entry that is not there is added after the last, if there is room
 unfoldable pub add-entry : Limits → List ℕ → Entry → Outcome Placed
@@ -41,10 +33,10 @@ abbrev pub leaf-handle : Bool → ℕ
 leaf-handle true = 1
 leaf-handle false = 0
 
-unfoldable pub insert : Limits → Tree → List ℕ → Outcome Placed
-insert limits (leaf b) s = outcome (At (leaf-handle b)) s
-insert limits (node k y n) s =
-    then-place (insert limits y s) (λ hy s₁. then-place (insert limits n s₁) (λ hn s₂. place-entry limits s₂ (an-entry k hy hn)))
+unfoldable pub insert : Limits → List ℕ → Tree → Outcome Placed
+insert limits s (leaf b) = outcome (At (leaf-handle b)) s
+insert limits s (node k y n) =
+    then-place (insert limits s y) (λ hy s₁. then-place (insert limits s₁ n) (λ hn s₂. place-entry limits s₂ (entry-of k hy hn)))
 
 -- ---- how many entries are added
 -- the test passes for some number below

@@ -1,4 +1,7 @@
 pub mod Finished
 pub mod Finish
-pub mod Insert
+pub mod Settles
+pub mod Paths
 pub mod Questions
+pub mod Insert
+pub mod Inserted

@@ -1,32 +1,27 @@
--- What the best sheet is on each way through the code: a sheet takes its place if it is before, and the diagram's parts are sought in turn.
+-- What the best sheet is on each way through the code that ends at a handle: a sheet takes its place if it is before.
 use Prim.Native.Nat.{ℕ, zero, suc, _+_, _-_, _≤_, _<_}
 use mathlib.Core.Path.{_≡_, refl, sym, ap, ap₂, subst, _∙_}
-use mathlib.Core.Logic.{_≢_}
 use mathlib.Core.Bool.{Bool, true, false, cond, not, false≢true}
 use mathlib.Core.List.{List, _∷_}
 use native.Mathlib.Omega.{arith}
 use lib.ListN.{getD}
 use Rattle.examples.specs.declared.best.Best as code
-use Rattle.examples.specs.Best.{counts-from, sheet, Best, none, some, lesser, best, beaten, sheet-of, best-of, Fields, CanSeek}
-use Rattle.facts.specs.declared.decision.Decision.the-variants.{Always, Never, Open}
+use Rattle.examples.specs.Best.{counts-from, sheet, Best, none, some, lesser, best}
+use Rattle.examples.specs.Needs.{beaten, sheet-of, best-of, Fields, CanSeek}
 use Rattle.facts.specs.declared.least.Sheet.{Sheet}
 use Rattle.facts.specs.declared.record.Facts.{Facts}
-use Rattle.facts.specs.declared.working.Asked.{Asked}
 use Rattle.facts.specs.Least.{least-sheet}
-use Rattle.facts.specs.LeastRecord.{HasLeast, LeastCounts}
-use Rattle.facts.specs.Record.{state, AskedOf}
-use Rattle.facts.specs.State.{at, free, no-to, yes-to, decide}
-use Rattle.store.specs.Layout.{question, entry, leaves}
-use Rattle.store.specs.Tree.{node, tree}
-use Rattle.terms.specs.declared.term.Equation.{Equation}
+use Rattle.facts.specs.Needs.{state, HasLeast, LeastCounts}
+use Rattle.facts.specs.State.{at, free}
+use Rattle.store.specs.Layout.{question}
+use Rattle.store.specs.Tree.{tree}
 use Rattle.terms.specs.Order.{lex}
 use Rattle.examples.proofs.BestExact.{Sized}
-use Rattle.examples.proofs.BestOnly.{best-beaten, best-turned}
+use Rattle.examples.proofs.BestOnly.{best-beaten}
 use Rattle.examples.proofs.Sheets.{counts-length}
 use Rattle.store.proofs.SoundFacts.{sound-says}
-use Rattle.store.proofs.SoundTree.{tree-never, tree-always, tree-node}
+use Rattle.store.proofs.SoundTree.{tree-never, tree-always}
 use Rattle.terms.proofs.Cases.{by-test}
-use Rattle.verdicts.proofs.WalkLaws.{can-go-yes, can-go-no, can-skip-yes, can-skip-no}
 
 -- ---- the lesser of two
 module _ (n : ℕ) (b : code.Best) (x : Sheet) where
@@ -64,12 +59,12 @@ module _ {n : ℕ} (b : code.Best) (e : b .found ≡ true) {f : Facts} {x : Shee
 module _ {s : List ℕ} {handle : ℕ} {f : Facts} {n : ℕ} (k : CanSeek s handle f n) where
   pub has-least : HasLeast f n
   has-least =
-      let w = k .walk in
+      let w = k .descent in
       let h = w .holds in
       record {
         most = w .limits .terms .steps .0;
-        holds = record { facts = h .facts; small = h .small; is = h .is; fitted = h .fitted; few = omega (arith, h .few, w .few, sound-says (w .limits) s (w .sound-in) .questions-in, w .roomy .questions-fit) };
-        few-steps = w .roomy .counts-fit;
+        holds = record { facts = h .facts; small = h .small; is = h .is; fitted = h .fitted; few = omega (arith, h .few, w .few, sound-says (w .limits) s (w .sound-in) .questions-in, w .fit .questions-fit) };
+        few-steps = w .fit .counts-fit;
         few-fields = k .few-fields;
       }
 
@@ -88,13 +83,13 @@ module _ {s : List ℕ} {handle : ℕ} {f : Facts} {n : ℕ} (k : CanSeek s hand
 
   -- ---- no better sheet is left
   -- every sheet of the code has n counts
-  sized : (b : code.Best) → Sized (question s) n (best-of n b)
+  pub sized : (b : code.Best) → Sized (question s) n (best-of n b)
   sized b = by-test (λ t. Sized (question s) n (cond t (some (sheet-of n (b .sheet))) none)) (b .found) (λ _. counts-length n 1 (λ i. getD (b .sheet .counts) i 0)) (λ _. tt)
 
   stays : (b : Best) → Sized (question s) n b → beaten n (state f) b ≡ true → b ≡ best (question s) n (tree s handle) (state f) b
   stays none z e = absurd (false≢true e)
   stays (some y) z e =
-      let h = k .walk .holds in
+      let h = k .descent .holds in
       let not-first : lex (sheet n (least-sheet n (state f))) y ≡ false = not-true (lex (sheet n (least-sheet n (state f))) y) e in
       rw (h .is) (sym (best-beaten (question s) n (h .facts) (subst (λ st. free st ≡ true) (h .is) (h .fitted)) (tree s handle) y z (subst (λ st. lex (sheet n (least-sheet n st)) y ≡ false) (h .is) not-first)))
     where
@@ -104,71 +99,3 @@ module _ {s : List ℕ} {handle : ℕ} {f : Facts} {n : ℕ} (k : CanSeek s hand
 
   pub beaten-best : (b : code.Best) {c : Bool} → c ≡ beaten n (state f) (best-of n b) → c ≡ true → best-of n b ≡ best (question s) n (tree s handle) (state f) (best-of n b)
   beaten-best b ec d = stays (best-of n b) (sized b) (sym ec ∙ d)
-
-  -- ---- an entry
-  module _ (not-never : handle ≢ 0) (not-always : handle ≢ 1) where
-    pub at-entry : leaves ≤ handle
-    at-entry = omega arith
-
-    abbrev i : ℕ
-    i = handle - leaves
-
-    here : tree s handle ≡ node (entry s i .question) (tree s (entry s i .yes-to)) (tree s (entry s i .no-to))
-    here =
-        let e : i + leaves ≡ handle = omega arith in
-        ap (tree s) (sym e) ∙ tree-node (sound-says (k .walk .limits) s (k .walk .sound-in)) i (omega (arith, k .walk .handle-in))
-
-    module _ {j : ℕ} (ej : j ≡ entry s i .question) {q : Equation} (eq : q ≡ question s j) {r : Asked} (a : AskedOf f q r) where
-      decided : decide (state f) (question s (entry s i .question)) ≡ r .decision
-      decided = sym (a .decision-is ∙ ap (decide (state f)) (eq ∙ ap (question s) ej))
-
-      pub best-always : r .decision ≡ Always → {y : ℕ} → y ≡ entry s i .yes-to → (b : Best) {o : Best} → o ≡ best (question s) n (tree s y) (state f) b
-          → o ≡ best (question s) n (tree s handle) (state f) b
-      unfolding best
-      best-always d e b eo = rw (here, best, decided, d) (eo ∙ ap (λ y. best (question s) n (tree s y) (state f) b) e)
-
-      pub best-never : r .decision ≡ Never → {m : ℕ} → m ≡ entry s i .no-to → (b : Best) {o : Best} → o ≡ best (question s) n (tree s m) (state f) b
-          → o ≡ best (question s) n (tree s handle) (state f) b
-      unfolding best
-      best-never d e b eo = rw (here, best, decided, d) (eo ∙ ap (λ m. best (question s) n (tree s m) (state f) b) e)
-
-      pub best-open : r .decision ≡ Open → {y : ℕ} → y ≡ entry s i .yes-to → (b : Best) {first : Best} → first ≡ best (question s) n (tree s y) (state (r .yes)) b
-          → {m : ℕ} → m ≡ entry s i .no-to → (g : Facts) → state g ≡ no-to (state f) q → {o : Best} → o ≡ best (question s) n (tree s m) (state g) first
-          → o ≡ best (question s) n (tree s handle) (state f) b
-      unfolding best
-      best-open d ey b {first} ef em g eg eo =
-          let asked = eq ∙ ap (question s) ej in
-          rw (here, best, decided, d) (eo
-          ∙ ap₂ (λ m st. best (question s) n (tree s m) st first) em (eg ∙ ap (no-to (state f)) asked)
-          ∙ ap (best (question s) n (tree s (entry s i .no-to)) (no-to (state f) (question s (entry s i .question))))
-          (ef ∙ ap₂ (λ y st. best (question s) n (tree s y) st b) ey (a .yes-is d ∙ ap (yes-to (state f)) asked)))
-
-      pub best-open-turned : r .decision ≡ Open → {m : ℕ} → m ≡ entry s i .no-to → (g : Facts) → state g ≡ no-to (state f) q → (b : code.Best) {first : Best}
-          → first ≡ best (question s) n (tree s m) (state g) (best-of n b) → {y : ℕ} → y ≡ entry s i .yes-to → {o : Best}
-          → o ≡ best (question s) n (tree s y) (state (r .yes)) first → o ≡ best (question s) n (tree s handle) (state f) (best-of n b)
-      best-open-turned d em g eg b {first} ef ey eo =
-          let asked = eq ∙ ap (question s) ej in
-          let h = k .walk .holds in
-          let j = entry s i .question in
-          let yes-part = tree s (entry s i .yes-to) in
-          let no-part = tree s (entry s i .no-to) in
-          let turned = subst (λ st. best (question s) n yes-part (yes-to st (question s j)) (best (question s) n no-part (no-to st (question s j)) (best-of n b)) ≡ best (question s) n (node j yes-part no-part) st (best-of n b))
-          (sym (h .is)) (best-turned (question s) n (h .facts) (subst (λ st. free st ≡ true) (h .is) (h .fitted)) j yes-part no-part (best-of n b) (sized b)
-          (ap (λ st. decide st (question s j)) (sym (h .is)) ∙ decided ∙ d)) in
-          rw here (eo
-          ∙ ap₂ (λ y st. best (question s) n (tree s y) st first) ey (a .yes-is d ∙ ap (yes-to (state f)) asked)
-          ∙ ap (best (question s) n (tree s (entry s i .yes-to)) (yes-to (state f) (question s j)))
-          (ef ∙ ap₂ (λ m st. best (question s) n (tree s m) st (best-of n b)) em (eg ∙ ap (no-to (state f)) asked))
-          ∙ turned)
-
-      pub seek-yes : r .decision ≡ Open → {y : ℕ} → y ≡ entry s i .yes-to → CanSeek s y (r .yes) n
-      seek-yes d e = record { walk = can-go-yes (k .walk) at-entry ej eq a d e; few-fields = k .few-fields }
-
-      pub seek-no : r .decision ≡ Open → {m : ℕ} → m ≡ entry s i .no-to → {g : Facts} → state g ≡ no-to (state f) q → CanSeek s m g n
-      seek-no d e eg = record { walk = can-go-no (k .walk) at-entry ej eq a d e eg; few-fields = k .few-fields }
-
-    pub skip-yes : {y : ℕ} → y ≡ entry s i .yes-to → CanSeek s y f n
-    skip-yes e = record { walk = can-skip-yes (k .walk) at-entry e; few-fields = k .few-fields }
-
-    pub skip-no : {m : ℕ} → m ≡ entry s i .no-to → CanSeek s m f n
-    skip-no e = record { walk = can-skip-no (k .walk) at-entry e; few-fields = k .few-fields }

@@ -10,7 +10,7 @@ use lib.IntN.{pos, negsuc, natAbs, _-ℤ_}
 use Rattle.examples.specs.Example.{largest-gap}
 use Rattle.facts.specs.Least.{IsLeast, Near, All, RestsOn}
 use Rattle.facts.specs.State.{at}
-use Rattle.store.specs.declared.limits.Limits.{Limits}
+use Rattle.terms.specs.declared.limits.Limits.{Limits}
 use Rattle.store.specs.Layout.{field-count, question-count, used, question, leaves}
 use Rattle.store.specs.Meaning.{meaning}
 use Rattle.store.specs.Tree.{Tree, leaf, node, tree, tree-truth, Ascending}
@@ -18,7 +18,7 @@ use Rattle.terms.specs.declared.term.Equation.{Equation}
 use Rattle.terms.specs.Meaning.{Valuation, truth}
 use Rattle.terms.specs.Simplify.{gap}
 use Rattle.facts.proofs.LeastBound.{least-bound}
-use Rattle.store.proofs.SoundFacts.{Sound}
+use Rattle.store.specs.SoundParts.{Sound}
 use Rattle.store.proofs.SoundList.{sound-question}
 use Rattle.store.proofs.SoundTree.{meaning-is-tree, tree-ascending}
 use Rattle.terms.proofs.Cases.{by-lt}

@@ -3,12 +3,12 @@
 use Prim.Native.Nat.{ℕ, _+_, _<_}
 use mathlib.Core.Path.{_≡_, refl, sym, subst, _∙_}
 use mathlib.Core.Logic.{inl, inr}
-use mathlib.Core.Bool.{Bool, true, false}
+use mathlib.Core.Bool.{true, false}
 use mathlib.Core.List.{List, []}
 use Rattle.examples.specs.Best.{sheet, Best, none, some, best}
-use Rattle.facts.specs.Least.{IsLeast}
+use Rattle.examples.specs.ExampleSays.{ExampleSays}
 use Rattle.facts.specs.State.{start}
-use Rattle.store.specs.declared.limits.Limits.{Limits}
+use Rattle.terms.specs.declared.limits.Limits.{Limits}
 use Rattle.store.specs.Layout.{used, question, leaves}
 use Rattle.store.specs.Meaning.{meaning}
 use Rattle.store.specs.Tree.{tree}
@@ -16,13 +16,8 @@ use Rattle.terms.specs.Meaning.{Valuation}
 use Rattle.terms.specs.Order.{lex}
 use Rattle.examples.proofs.BestExact.{no-some, same-some, Satisfies, not-none, not-before-says, Right, best-right}
 use Rattle.examples.proofs.SheetOrder.{not-after-least}
-use Rattle.store.proofs.SoundFacts.{Sound}
+use Rattle.store.specs.SoundParts.{Sound}
 use Rattle.store.proofs.SoundTree.{meaning-is-tree}
-
--- what the best sheet says of a meaning: none satisfies, or it is the least that does
-abbrev pub Says : ℕ → (Valuation → Bool) → Best → Type 0
-Says n means none = (v : Valuation) → means v ≡ true → ⊥
-Says n means (some x) = (v : Valuation) × IsLeast n (λ w. means w ≡ true) v × (x ≡ sheet n v)
 
 module _ {limits : Limits} {s : List ℕ} (snd : Sound limits s) (handle : ℕ) (h : handle < used s + leaves) (n : ℕ) where
   abbrev r : Best
@@ -34,7 +29,7 @@ module _ {limits : Limits} {s : List ℕ} (snd : Sound limits s) (handle : ℕ) 
   meets : (v : Valuation) → meaning s handle v ≡ true → Satisfies (question s) n [] (tree s handle) v
   meets v m = (tt, sym (meaning-is-tree snd handle h v) ∙ m)
 
-  says : (b : Best) → Right (question s) n [] (tree s handle) none b → Says n (meaning s handle) b
+  says : (b : Best) → Right (question s) n [] (tree s handle) none b → ExampleSays n (meaning s handle) b
   says none w = λ v m. absurd (not-none (question s) n (w .is-least v (meets v m)) tt)
   says (some x) w = elim (w .comes-of) [
     | inl e ↦ absurd (no-some x (sym e))
@@ -48,6 +43,6 @@ module _ {limits : Limits} {s : List ℕ} (snd : Sound limits s) (handle : ℕ) 
         )
   ]
 
-  -- "it satisfies, it is before every other satisfying sheet"; "52 exactly if nothing satisfies"
-  pub example-says : Says n (meaning s handle) (best (question s) n (tree s handle) start none)
+  -- "the least satisfying sheet, field 1 compared first"; "52, example of a rule that nothing satisfies"
+  pub example-says : ExampleSays n (meaning s handle) (best (question s) n (tree s handle) start none)
   example-says = says r right

@@ -7,107 +7,129 @@ use mathlib.Core.List.{List}
 use native.Mathlib.Omega.{arith}
 use native.Mathlib.Nat.{mul-le-mul-right}
 use borrow.Author.Tests.{eq-eqb, ne-eqb, ltb-true}
-use lib.Dec.{ltb}
 use lib.ListN.{length, getD}
+use Rattle.examples.specs.declared.answer.Example.{Example}
+use Rattle.examples.specs.declared.answer.Example.the-variants.{Written, Refused}
+use Rattle.examples.specs.declared.answer.ExampleFault.the-variants.{NotSound, NoHandle, WrongLength, Nothing}
 use Rattle.examples.specs.declared.best.Best as code
-use Rattle.examples.specs.declared.giving.Example.the-variants.{Written, NotSound, NoHandle, WrongLength, Nothing}
-use Rattle.examples.specs.Best.{sheet, none, some, best, sheet-of, best-of, CanSeek}
-use Rattle.examples.specs.Example.{given, example, CanWrite}
+use Rattle.examples.specs.Best.{sheet, none, some, best}
+use Rattle.examples.specs.Example.{given, best-sheet, example}
+use Rattle.examples.specs.ExampleSays.{ExampleSays}
+use Rattle.examples.specs.Needs.{sheet-of, best-of, CanSeek, CanWrite, CanGive}
 use Rattle.facts.specs.declared.record.Facts.{Facts}
 use Rattle.facts.specs.Least.{IsLeast, Near}
-use Rattle.facts.specs.Record.{state, last-field, most-steps}
+use Rattle.facts.specs.Needs.{state, last-field}
 use Rattle.facts.specs.State.{at, start}
-use Rattle.store.specs.declared.limits.Limits.{Limits}
-use Rattle.store.specs.Layout.{field-count, question-count, used, question, leaves}
+use Rattle.store.specs.Layout.{heading-length, field-count, question-count, used, question, leaves, is-handle}
 use Rattle.store.specs.Meaning.{meaning}
 use Rattle.store.specs.Outcome.{outcome}
 use Rattle.store.specs.Sound.{sound}
+use Rattle.store.specs.SoundParts.{Sound}
 use Rattle.store.specs.Tree.{tree}
+use Rattle.terms.specs.declared.limits.Limits.{Limits}
+use Rattle.terms.specs.Limits.{most-count}
 use Rattle.terms.specs.Meaning.{Valuation}
-use Rattle.verdicts.specs.Leaves.{Roomy}
+use Rattle.terms.specs.Needs.{FitLimits}
 use Rattle.examples.proofs.ExampleBound.{example-bound}
-use Rattle.examples.proofs.ExampleMeans.{Says, example-says}
+use Rattle.examples.proofs.ExampleMeans.{example-says}
 use Rattle.examples.proofs.SheetWritten.{counts-at}
-use Rattle.store.proofs.SoundFacts.{Sound, sound-says}
+use Rattle.store.proofs.SoundFacts.{sound-says}
 use Rattle.store.proofs.SoundList.{sound-question}
-use Rattle.verdicts.proofs.VerdictWays.{can-start}
+use Rattle.verdicts.proofs.DescentLaws.{descent-starts}
 
 product : (a b c : ℕ) → a ≤ b → a * c ≤ b * c
 product a b c h = mul-le-mul-right c h
 
-module _ (limits : Limits) (s : List ℕ) {b : Bool} (eb : b ≡ sound limits s) where
-  pub not-sound : (handle : ℕ) (out : List ℕ) → b ≡ false → outcome NotSound out ≡ example limits s handle out
+-- ---- a handle of a sound store
+module _ {s : List ℕ} {handle : ℕ} {out : List ℕ} (k : CanGive s handle out) where
+  snd : Sound (k .limits) s
+  snd = sound-says (k .limits) s (k .sound-in)
+
+  pub heading-in : heading-length ≤ length s
+  heading-in = omega (arith, snd .list-in)
+
+  few-fields : field-count s ≤ last-field
+  few-fields = omega (arith, snd .fields-in, k .fit .fields-fit)
+
+  module _ (f : Facts) (ef : state f ≡ start) {n : ℕ} (en : n ≡ field-count s) where
+    pub can-seek : CanSeek s handle f n
+    can-seek = record { descent = descent-starts (k .limits) s (k .fit) (k .sound-in) handle (k .handle-in) f ef; few-fields = omega (arith, few-fields) }
+
+    module _ (acc r : code.Best) (none-yet : (m : ℕ) → best-of m acc ≡ none) (er : best-of n r ≡ best (question s) n (tree s handle) (state f) (best-of n acc)) where
+      the-best : best-of (field-count s) r ≡ best-sheet s handle
+      the-best = (rw en at er) ∙ ap₂ (λ st b. best (question s) (field-count s) (tree s handle) st b) ef (none-yet (field-count s))
+
+      pub gives-nothing : r .found ≡ false → outcome (Refused Nothing) out ≡ given (best-sheet s handle) out
+      gives-nothing t = ap (λ b. given b out) (sym (ap (λ t. cond t (some (sheet-of (field-count s) (r .sheet))) none) t) ∙ the-best)
+
+      module _ (t : r .found ≡ true) where
+        found : some (sheet-of (field-count s) (r .sheet)) ≡ best-sheet s handle
+        found = sym (ap (λ t. cond t (some (sheet-of (field-count s) (r .sheet))) none) t) ∙ the-best
+
+        pub gives-sheet : {o : List ℕ} → o ≡ sheet-of (length out) (r .sheet) → outcome Written o ≡ given (best-sheet s handle) out
+        gives-sheet eo = ap (outcome Written) (eo ∙ ap (λ m. sheet-of m (r .sheet)) (k .length-is)) ∙ ap (λ b. given b out) found
+
+        near : (j : ℕ) → 1 ≤ j → j ≤ question-count s → Near (field-count s) (k .limits .terms .steps .0) (question s j)
+        near j i l =
+            let q = sound-question snd j i l in
+            record { left-in = q .left .field-in; right-in = q .right .field-in; gap-up = omega (arith, q .right .steps-in); gap-down = omega (arith, q .left .steps-in) }
+
+        -- every count that is found is the least sheet's, so it is small
+        count-small : (i : ℕ) → 1 ≤ i → i ≤ field-count s → getD (r .sheet .counts) i 0 ≤ most-count
+        count-small i h l =
+            let m = field-count s in
+            let says : (v : Valuation) × IsLeast m (λ w. meaning s handle w ≡ true) v × (sheet-of m (r .sheet) ≡ sheet m v) =
+            subst (ExampleSays m (meaning s handle)) (sym found) (example-says snd handle (k .handle-in) m) in
+            let v = says .0 in
+            let p : 1 + (i - 1) ≡ i = omega arith in
+            let same : getD (r .sheet .counts) i 0 ≡ at v i =
+            ap (λ j. getD (r .sheet .counts) j 0) (sym p) ∙ sym (counts-at m 1 (i - 1) (λ j. getD (r .sheet .counts) j 0) (omega arith))
+            ∙ ap (λ x. getD x (i - 1) 0) (says .2) ∙ counts-at m 1 (i - 1) (at v) (omega arith) ∙ ap (at v) p in
+            bounded v (says .1) same
+          where
+            bounded : (v : Valuation) → IsLeast (field-count s) (λ w. meaning s handle w ≡ true) v → getD (r .sheet .counts) i 0 ≡ at v i → getD (r .sheet .counts) i 0 ≤ most-count
+            bounded v is same =
+                let few = few-fields in
+                omega (
+                  arith,
+                  example-bound snd handle (k .handle-in) (field-count s) (k .limits .terms .steps .0) near v is i l,
+                  k .fit .counts-fit,
+                  product (field-count s) last-field (k .limits .terms .steps .0 + 1) (omega arith),
+                )
+
+        pub can-write : CanWrite (r .sheet) out
+        can-write = record { few = omega (arith, few-fields, k .length-is); small = λ i h j. count-small i h (omega (arith, k .length-is)) }
+
+-- ---- the operation
+module _ (limits : Limits) (s : List ℕ) {b : Bool} (eb : b ≡ sound limits s) (h : ℕ) (out : List ℕ) where
+  pub not-sound : b ≡ false → outcome (Refused NotSound) out ≡ example limits s h out
   unfolding example
-  not-sound handle out e = rw (← eb, e) refl
+  not-sound t = rw (← eb, t)
 
-  module _ (e : b ≡ true) where
-    snd : Sound limits s
-    snd = sound-says limits s (sym eb ∙ e)
+  module _ (t : b ≡ true) where
+    pub heading-fits : heading-length ≤ length s
+    heading-fits = omega (arith, sound-says limits s (sym eb ∙ t) .list-in)
 
-    pub has-word : 0 < length s
-    has-word = omega (arith, snd .list-in)
-
-    module _ (handle : ℕ) {c : Bool} (ec : c ≡ ltb handle (used s + leaves)) where
-      pub no-handle : (out : List ℕ) → c ≡ false → outcome NoHandle out ≡ example limits s handle out
+    module _ {a : Bool} (ea : a ≡ is-handle s h) where
+      pub no-handle : a ≡ false → outcome (Refused NoHandle) out ≡ example limits s h out
       unfolding example
-      no-handle out d = rw (← eb, e, ← ec, d) refl
+      no-handle f = rw (← eb, t, ← ea, f)
 
-      module _ (d : c ≡ true) (out : List ℕ) {m : ℕ} (em : m ≡ field-count s) where
-        pub wrong-length : length out ≢ m → outcome WrongLength out ≡ example limits s handle out
+      module _ (f : a ≡ true) {n w : ℕ} (en : n ≡ field-count s) (ew : w ≡ n) where
+        pub wrong-length : length out ≢ w → outcome (Refused WrongLength) out ≡ example limits s h out
         unfolding example
-        wrong-length l = rw (← eb, e, ← ec, d, ne-eqb (length out) (field-count s) (λ i. l (i ∙ sym em))) refl
+        wrong-length k = rw (← eb, t, ← ea, f, ← en, ← ew, ne-eqb (length out) w k)
 
-        right-length : length out ≡ m → given (best (question s) (field-count s) (tree s handle) start none) out ≡ example limits s handle out
-        unfolding example
-        right-length l = rw (← eb, e, ← ec, d, eq-eqb (length out) (field-count s) (l ∙ em)) refl
+        module _ (k : length out ≡ w) {g : ℕ} (eg : g ≡ h) where
+          pub can-give : FitLimits limits → CanGive s g out
+          can-give fit = rw eg (record {
+            limits = limits;
+            fit = fit;
+            sound-in = sym eb ∙ t;
+            handle-in = ltb-true h (used s + leaves) (sym ea ∙ f);
+            length-is = k ∙ ew ∙ en;
+          })
 
-        module _ {h : ℕ} (eh : h ≡ handle) (f : Facts) (ef : state f ≡ start) (roomy : Roomy limits) where
-          pub can-seek : CanSeek s h f (field-count s)
-          can-seek = record { walk = can-start limits s eb e handle ec d eh f ef roomy; few-fields = omega (arith, snd .fields-in, roomy .fields-fit) }
-
-          module _ (acc r : code.Best) (none-yet : (n : ℕ) → best-of n acc ≡ none)
-              (er : best-of (field-count s) r ≡ best (question s) (field-count s) (tree s h) (state f) (best-of (field-count s) acc)) where
-            abbrev n : ℕ
-            n = field-count s
-
-            the-best : best-of n r ≡ best (question s) n (tree s handle) start none
-            the-best = er ∙ ap (λ b. best (question s) n (tree s h) (state f) b) (none-yet n) ∙ ap₂ (λ h st. best (question s) n (tree s h) st none) eh ef
-
-            pub gives-nothing : length out ≡ m → r .found ≡ false → outcome Nothing out ≡ example limits s handle out
-            gives-nothing l t = ap (λ b. given b out) (sym (ap (λ t. cond t (some (sheet-of n (r .sheet))) none) t) ∙ the-best) ∙ right-length l
-
-            found : r .found ≡ true → some (sheet-of n (r .sheet)) ≡ best (question s) n (tree s handle) start none
-            found t = sym (ap (λ t. cond t (some (sheet-of n (r .sheet))) none) t) ∙ the-best
-
-            pub gives-sheet : length out ≡ m → r .found ≡ true → {o : List ℕ} → o ≡ sheet-of (length out) (r .sheet) → outcome Written o ≡ example limits s handle out
-            gives-sheet l t eo =
-                ap (outcome Written) (eo ∙ ap (λ k. sheet-of k (r .sheet)) (l ∙ em)) ∙ ap (λ b. given b out) (found t) ∙ right-length l
-
-            handle-in : handle < used s + leaves
-            handle-in = ltb-true handle (used s + leaves) (sym ec ∙ d)
-
-            near : (j : ℕ) → 1 ≤ j → j ≤ question-count s → Near n (limits .terms .steps .0) (question s j)
-            near j i l =
-                let q = sound-question snd j i l in
-                record { left-in = q .left .field-in; right-in = q .right .field-in; gap-up = omega (arith, q .right .steps-in); gap-down = omega (arith, q .left .steps-in) }
-
-            -- every count that is found is the least sheet's, so it is small
-            count-small : r .found ≡ true → (i : ℕ) → 1 ≤ i → i ≤ n → getD (r .sheet .counts) i 0 ≤ most-steps
-            count-small t i k l =
-                let says : (v : Valuation) × IsLeast n (λ w. meaning s handle w ≡ true) v × (sheet-of n (r .sheet) ≡ sheet n v) =
-                subst (Says n (meaning s handle)) (sym (found t)) (example-says snd handle handle-in n) in
-                let v = says .0 in
-                let p : 1 + (i - 1) ≡ i = omega arith in
-                let same : getD (r .sheet .counts) i 0 ≡ at v i =
-                ap (λ j. getD (r .sheet .counts) j 0) (sym p) ∙ sym (counts-at n 1 (i - 1) (λ j. getD (r .sheet .counts) j 0) (omega arith))
-                ∙ ap (λ x. getD x (i - 1) 0) (says .2) ∙ counts-at n 1 (i - 1) (at v) (omega arith) ∙ ap (at v) p in
-                bounded v (says .1) i l same
-              where
-                bounded : (v : Valuation) → IsLeast n (λ w. meaning s handle w ≡ true) v → (i : ℕ) → i ≤ n → getD (r .sheet .counts) i 0 ≡ at v i → getD (r .sheet .counts) i 0 ≤ most-steps
-                bounded v is i l same =
-                    let few = snd .fields-in in
-                    let fit = roomy .fields-fit in
-                    omega (arith, example-bound snd handle handle-in n (limits .terms .steps .0) near v is i l, roomy .counts-fit, product n last-field (limits .terms .steps .0 + 1) (omega arith))
-
-            pub can-write : length out ≡ m → r .found ≡ true → CanWrite (r .sheet) out
-            can-write l t = record { few = omega (arith, snd .fields-in, roomy .fields-fit); small = λ i k j. count-small t i k (omega arith) }
+          pub is-given : {r : Example} {o : List ℕ} → outcome r o ≡ given (best-sheet s g) out → outcome r o ≡ example limits s h out
+          unfolding example
+          is-given d = rw (← eb, t, ← ea, f, eq-eqb (length out) (field-count s) (k ∙ ew ∙ en), ← eg) d

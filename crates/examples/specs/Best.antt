@@ -1,20 +1,14 @@
 -- The least sheet over the paths of a diagram that lead to always: at each such path the least sheet that fits its facts.
-use Prim.Native.Nat.{ℕ, zero, suc, _+_, _≤_}
-use mathlib.Core.Bool.{Bool, true, false, cond, not}
+use Prim.Native.Nat.{ℕ, zero, suc, _+_}
+use mathlib.Core.Bool.{true, false, cond}
 use mathlib.Core.List.{List, [], _∷_}
-use lib.ListN.{getD}
-use Rattle.examples.specs.declared.best.Best as code
 use Rattle.facts.specs.declared.decision.Decision.the-variants.{Always, Never, Open}
-use Rattle.facts.specs.declared.least.Sheet.{Sheet}
-use Rattle.facts.specs.declared.record.Facts.{Facts}
 use Rattle.facts.specs.Least.{least-sheet}
-use Rattle.facts.specs.Record.{last-field}
 use Rattle.facts.specs.State.{State, at, no-to, yes-to, decide}
 use Rattle.store.specs.Tree.{Tree, leaf, node}
 use Rattle.terms.specs.declared.term.Equation.{Equation}
 use Rattle.terms.specs.Meaning.{Valuation}
 use Rattle.terms.specs.Order.{lex}
-use Rattle.verdicts.specs.Leaves.{CanWalk}
 
 -- the counts of so many fields, from the i-th on
 unfoldable pub counts-from : ℕ → ℕ → (ℕ → ℕ) → List ℕ
@@ -30,7 +24,7 @@ pub data Best : Type 0 where
   none : Best
   some : List ℕ → Best
 
--- "compared field by field from field 1": the earlier of the two
+-- "field 1 compared first": the earlier of the two
 abbrev pub lesser : Best → List ℕ → Best
 lesser none x = some x
 lesser (some y) x = cond (lex x y) (some x) (some y)
@@ -44,22 +38,3 @@ best ask n (node k y m) st b =
       | Never ↦ best ask n m st b
       | Open ↦ best ask n m (no-to st (ask k)) (best ask n y (yes-to st (ask k)) b)
     ]
-
--- no sheet that fits the facts is before the best so far
-abbrev pub beaten : ℕ → State → Best → Bool
-beaten n st none = false
-beaten n st (some y) = not (lex (sheet n (least-sheet n st)) y)
-
--- ---- the code's sheets
-abbrev pub sheet-of : ℕ → Sheet → List ℕ
-sheet-of n s = counts-from n 1 (λ i. getD (s .counts) i 0)
-
-abbrev pub best-of : ℕ → code.Best → Best
-best-of n b = cond (b .found) (some (sheet-of n (b .sheet))) none
-
-pub record Fields (n : ℕ) : Type 0 where
-  pub few : n ≤ last-field
-
-pub record CanSeek (s : List ℕ) (handle : ℕ) (f : Facts) (n : ℕ) : Type 0 where
-  pub walk : CanWalk s handle f
-  pub few-fields : n ≤ last-field

@@ -1,2 +1,4 @@
 pub mod Best
 pub mod Example
+pub mod ExampleSays
+pub mod Needs

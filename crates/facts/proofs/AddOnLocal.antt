@@ -32,7 +32,7 @@ use Rattle.terms.specs.declared.term.Equation.{Equation}
 use Rattle.terms.proofs.term.Equation as E
 use Rattle.terms.proofs.term.Equation.Laws as E′
 use Rattle.facts.specs.declared.record.Facts.{Facts}
-use Rattle.facts.specs.Record.{CanAdd}
+use Rattle.facts.specs.Needs.{CanAddNo}
 use Rattle.facts.proofs.RecordLent.{mach, mach-q, Good, Good-q, Added}
 use Rattle.facts.proofs.LentLocal.{Ref, lends, back}
 use Rattle.facts.proofs.record.Facts as T
@@ -57,13 +57,13 @@ module _ {M : Type 1} (𝓤 : URA M) (H : Heap 𝓤) (A : Atoms 𝓤) (at-mem : 
   to-add h e α l δ = (((α ∷ [], tt), (fullShare, tt), tt, lent h e l δ, (vptr l 0 ∷ [], (mach-q e ∷ [], tt))), tt)
 
   -- the caller has what `add` asks
-  goes-add : Given 𝓤 H A → (h : Facts) (e : Equation) → Good-q e → CanAdd h e → (α l : ℕ) (δ : GName) → ent 𝓤 (sep 𝓤 (A .lft (α ∷ []) fullShare) (sem 𝓤 H A (ref h α l δ))) (Add .pre (to-add h e α l δ))
+  goes-add : Given 𝓤 H A → (h : Facts) (e : Equation) → Good-q e → CanAddNo h e → (α l : ℕ) (δ : GName) → ent 𝓤 (sep 𝓤 (A .lft (α ∷ []) fullShare) (sem 𝓤 H A (ref h α l δ))) (Add .pre (to-add h e α l δ))
   goes-add W h e good can α l δ =
       qed W (‵ (flft (α ∷ []) fullShare) ∷ ‵ (ref h α l δ) ∷ []) ∵ says ! can $ nothing ! $ move ! (1 ∷ 0 ∷ []) $ join ! $ frame ! $
       nothing ! $ owned ! E.the-row (Is E.the-row) (LL.makes E.the-type E′.the-plain 𝓤 H A) e _ good $ fjoin ! $ move ! (1 ∷ 0 ∷ []) $ fjoin ! $ done !
 
 module _ {M : Type 1} {𝓤 : URA M} {H : Heap 𝓤} {A : Atoms 𝓤} {K : Type 0} {W : Given 𝓤 H A} {Γ : List (Item 𝓤)} {G : Goal 𝓤 H} where
-  pub lend-to : K → Soaks G → (at-mem : Memory → SProp 𝓤) (run : Routine → Fun 𝓤) (h : Facts) (e : Equation) (l : ℕ) → Good h → Good-q e → CanAdd h e
+  pub lend-to : K → Soaks G → (at-mem : Memory → SProp 𝓤) (run : Routine → Fun 𝓤) (h : Facts) (e : Equation) (l : ℕ) → Good h → Good-q e → CanAddNo h e
       → ((α : ℕ) (δ : GName) → Seq K W (raw (Add 𝓤 H A at-mem run .pre (to-add 𝓤 H A at-mem run h e α l δ)) ∷ ‵ (kept α l δ) ∷ Γ) G) → Seq K W (‵ (fat fullShare T′.mir l 0 (mach h)) ∷ Γ) G
   lend-to t z at-mem run h e l good good-q can k =
       lft-new t z (λ α. move t (1 ∷ []) $

@@ -17,7 +17,8 @@ use Rattle.facts.specs.declared.decision.Decision.the-variants.{Always, 
 use Rattle.facts.specs.declared.decision.Plan.{Plan}
 use Rattle.facts.specs.declared.decision.Plan.the-variants.{Keep, Clash, Join}
 use Rattle.facts.specs.declared.record.Facts.{Facts}
-use Rattle.facts.specs.Record.{classes-in, state, last-field, most-noes, most-steps, Small, Ready, RaisedSides, Sides, PlaceJoined, CanJoin}
+use Rattle.facts.specs.Needs.{classes-in, state, last-field, most-noes, Small, Askable, RaisedSides, Sides, PlaceJoined, CanJoin, field-places}
+use Rattle.terms.specs.Limits.{most-count}
 use Rattle.facts.specs.State.{settled, free, joined, plan, plan-of, planned, yes-to, decide}
 use Rattle.terms.proofs.Cases.{by-eq}
 use Rattle.facts.proofs.PlanCases.{plan-cases}
@@ -70,7 +71,7 @@ module _ (class offset : List ℕ) where
         (ap₂ eqb (place-side (q .left .steps .0) (s .left-in) pl) (place-side (q .right .steps .0) (s .right-in) pr))
 
 -- ---- the questions answered no
-pub ready-sides : {f : Facts} {q : Equation} → length (f .class) ≡ 17 → Ready f q → Sides (f .class) (f .offset) q
+pub ready-sides : {f : Facts} {q : Equation} → length (f .class) ≡ field-places → Askable f q → Sides (f .class) (f .offset) q
 ready-sides {f} {q} size r = record {
   whole = size;
   left-in = r .small .left-in;
@@ -83,9 +84,9 @@ module _ {f : Facts} {by : ℕ} (can : CanJoin f by) {k : ℕ} (h : k < f .noes)
   pub listed : k < most-noes
   listed = omega (arith, can .within .noes-few)
 
-  pub raised-sides : length (f .class) ≡ 17 → {l r : Term} → l ≡ term-of (getD (f .left) k 0) → r ≡ term-of (getD (f .right) k 0) → RaisedSides (f .class) (f .offset) (equation l r) by
+  pub raised-sides : length (f .class) ≡ field-places → {l r : Term} → l ≡ term-of (getD (f .left) k 0) → r ≡ term-of (getD (f .right) k 0) → RaisedSides (f .class) (f .offset) (equation l r) by
   raised-sides size {l} {r} el er =
-      let s : Small most-steps (equation l r) = subst (Small most-steps) (sym (ap₂ equation el er)) (can .within .noes-small k h) in
+      let s : Small most-count (equation l r) = subst (Small most-count) (sym (ap₂ equation el er)) (can .within .noes-small k h) in
       record {
         whole = size;
         left-in = s .left-in;

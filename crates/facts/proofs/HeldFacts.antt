@@ -16,7 +16,8 @@ use Rattle.facts.specs.declared.record.Facts.{Facts}
 use Rattle.facts.specs.declared.working.Asked.{Asked}
 use Rattle.facts.specs.Facts.{Fact, fact, Fits, Forces}
 use Rattle.facts.specs.Least.{IsLeast, Near, All, RestsOn, least-count, fixed, least-sheet}
-use Rattle.facts.specs.Record.{state, last-field, most-noes, most-steps, most-offset, question-at, noes-in, Small, AllSmall, Holds, Within, Ready, AskedOf}
+use Rattle.facts.specs.Needs.{state, last-field, most-noes, most-offset, question-at, noes-in, Small, AllSmall, Holds, Within, Askable, AskedOf}
+use Rattle.terms.specs.Limits.{most-count}
 use Rattle.facts.specs.State.{State, at, Fit, settled, free, left-side, right-side, joined, planned, certain, no-to, yes-to, work-in, start, state-of, decide}
 use Rattle.terms.proofs.Cases.{by-eq, by-test}
 use Rattle.facts.proofs.Decided.{decided, no-to-free}
@@ -30,12 +31,12 @@ use Rattle.facts.proofs.WorkedRecord.{noes-length, noes-kept, clash-not
 -- ---- classes and questions of a state of small facts
 record Tame (s : State) : Type 0 where
   classes-tame : (k : ℕ) → k ≤ last-field → s .classes .class k ≤ last-field
-  noes-tame : All (Small most-steps) (s .noes)
+  noes-tame : All (Small most-count) (s .noes)
 
-certain-small : Small most-steps certain
+certain-small : Small most-count certain
 certain-small = record { left-in = omega arith; right-in = omega arith; left-steps = omega arith; right-steps = omega arith }
 
-no-tame : (s : State) (q : Equation) → Small most-steps q → Tame s → Tame (no-to s q)
+no-tame : (s : State) (q : Equation) → Small most-count q → Tame s → Tame (no-to s q)
 no-tame s q small t = record { classes-tame = t .classes-tame; noes-tame = (small, t .noes-tame) }
 
 joined-tame : (s : State) (into from by : ℕ) → into ≤ last-field → Tame s → Tame (record { classes = joined (s .classes) into from by; noes = s .noes })
@@ -44,7 +45,7 @@ joined-tame s into from by h t = record {
   noes-tame = t .noes-tame;
 }
 
-work-in-tame : (s : State) (q : Equation) (a : Bool) → Small most-steps q → Tame s → Tame (work-in s q a)
+work-in-tame : (s : State) (q : Equation) (a : Bool) → Small most-count q → Tame s → Tame (work-in s q a)
 work-in-tame s q false small t = no-tame s q small t
 work-in-tame s q true small t =
     let p = s .classes .class (q .left .field .0) in
@@ -63,7 +64,7 @@ work-in-tame s q true small t =
 pub small-more : {m n : ℕ} {q : Equation} → m ≤ n → Small m q → Small n q
 small-more h s = record { left-in = s .left-in; right-in = s .right-in; left-steps = omega (arith, s .left-steps); right-steps = omega (arith, s .right-steps) }
 
-state-of-tame : (k : ℕ) (xs : List Fact) → k ≤ most-steps → AllSmall k xs → Tame (state-of xs)
+state-of-tame : (k : ℕ) (xs : List Fact) → k ≤ most-count → AllSmall k xs → Tame (state-of xs)
 state-of-tame k [] h a = record { classes-tame = λ k h. h; noes-tame = tt }
 state-of-tame k (x ∷ xs) h a = work-in-tame (state-of xs) (x .question) (x .answer) (small-more h (a .0)) (state-of-tame k xs h (a .1))
 
@@ -136,19 +137,19 @@ NotOpen Open = ⊥
 not-open : (d : Decision) → NotOpen d → d ≡ Open → ⊥
 not-open d n e = rw e at n
 
-noes-small-in : (left right : List ℕ) (n k : ℕ) → All (Small most-steps) (noes-in left right n) → k < n → Small most-steps (question-at left right k)
+noes-small-in : (left right : List ℕ) (n k : ℕ) → All (Small most-count) (noes-in left right n) → k < n → Small most-count (question-at left right k)
 unfolding noes-in
 noes-small-in left right zero k a h = absurd (omega arith)
 noes-small-in left right (suc n) k a h = elim (ℕ-discrete k n) [
-  | yes e ↦ subst (λ j. Small most-steps (question-at left right j)) (sym e) (a .0)
+  | yes e ↦ subst (λ j. Small most-count (question-at left right j)) (sym e) (a .0)
   | no d ↦ noes-small-in left right n k (a .1) (omega arith)
 ]
 
 module _ {most-no most : ℕ} {f : Facts} (h : Holds most-no most f) where
-  tame : most ≤ most-steps → Tame (state f)
+  tame : most ≤ most-count → Tame (state f)
   tame m = subst Tame (sym (h .is)) (state-of-tame most (h .facts) m (h .small))
 
-  pub holds-within : most-no ≤ most-noes → most ≤ most-steps → Within most-offset f
+  pub holds-within : most-no ≤ most-noes → most ≤ most-count → Within most-offset f
   holds-within l m = record {
     class-in = tame m .classes-tame;
     offset-in = λ k i. rw (ap (λ (s : State). s .classes .offset k) (h .is)) (omega (arith, offset-bound most (h .facts) (h .small) (sym (ap free (h .is)) ∙ h .fitted) k i));
@@ -156,7 +157,7 @@ module _ {most-no most : ℕ} {f : Facts} (h : Holds most-no most f) where
     noes-small = λ k i. noes-small-in (f .left) (f .right) (f .noes) k (tame m .noes-tame) i;
   }
 
-  pub holds-ready : most-no ≤ most-noes → most ≤ most-steps → (q : Equation) → Small most-steps q → Ready f q
+  pub holds-ready : most-no ≤ most-noes → most ≤ most-count → (q : Equation) → Small most-count q → Askable f q
   holds-ready l m q small = record { within = holds-within l m; small = small; fitted = h .fitted }
 
   -- ---- what asking gives

@@ -12,7 +12,7 @@ use lib.ListN.{length, getD, set, length-set}
 use lib.Seq.{getD-set-same, getD-set-other}
 use Rattle.facts.specs.declared.decision.Plan.the-variants.{Join}
 use Rattle.facts.specs.declared.record.Facts.{Facts}
-use Rattle.facts.specs.Record.{state, last-field, CanRaise, field-moved, noes-in}
+use Rattle.facts.specs.Needs.{state, last-field, CanRaise, field-moved, noes-in, field-places}
 use Rattle.facts.specs.State.{planned}
 use Rattle.facts.proofs.Numbered.{getD-beyond}
 use Rattle.facts.proofs.RecordWays.{getD-inside}
@@ -30,14 +30,14 @@ module _ (g : Facts) (into from by : ℕ) where
     pub offset-done : (k : ℕ) → k < i → getD (f .offset) k 0 ≡ new-offset k
     pub class-left : (k : ℕ) → i ≤ k → getD (f .class) k k ≡ getD (g .class) k k
     pub offset-left : (k : ℕ) → i ≤ k → getD (f .offset) k 0 ≡ getD (g .offset) k 0
-    pub class-size : length (f .class) ≡ 17
-    pub offset-size : length (f .offset) ≡ 17
+    pub class-size : length (f .class) ≡ field-places
+    pub offset-size : length (f .offset) ≡ field-places
     pub left-same : f .left ≡ g .left
     pub right-same : f .right ≡ g .right
     pub noes-same : f .noes ≡ g .noes
-    pub up-to : i ≤ 17
+    pub up-to : i ≤ field-places
 
-  pub joining-none : length (g .class) ≡ 17 → length (g .offset) ≡ 17 → Joining 0 g
+  pub joining-none : length (g .class) ≡ field-places → length (g .offset) ≡ field-places → Joining 0 g
   joining-none l o = record {
     class-done = λ k h. absurd (omega arith);
     offset-done = λ k h. absurd (omega arith);
@@ -51,11 +51,11 @@ module _ (g : Facts) (into from by : ℕ) where
     up-to = omega arith;
   }
 
-  pub joining-raise : {i : ℕ} {f : Facts} → Joining i f → i < 17 → ((k : ℕ) → k ≤ last-field → getD (g .offset) k 0 + by < 2 ^ 32) → CanRaise f i by
+  pub joining-raise : {i : ℕ} {f : Facts} → Joining i f → i < field-places → ((k : ℕ) → k ≤ last-field → getD (g .offset) k 0 + by < 2 ^ 32) → CanRaise f i by
   joining-raise {i} {f} j h r = record { in-arrays = h; raised-fits = rw (j .offset-left i (omega arith)) (r i (omega arith)) }
 
   -- the field that is joined now, at the end of those done
-  module _ {i : ℕ} {f : Facts} (j : Joining i f) (h : i < 17) where
+  module _ {i : ℕ} {f : Facts} (j : Joining i f) (h : i < field-places) where
     here : getD (f .class) i 0 ≡ getD (g .class) i i
     here = getD-inside (f .class) i 0 i (omega (arith, j .class-size)) ∙ j .class-left i (omega arith)
 
@@ -102,7 +102,7 @@ module _ (g : Facts) (into from by : ℕ) where
     pub joining-stayed : getD (f .class) i 0 ≢ from → Joining (i + 1) f
     joining-stayed n = stayed (λ e. n (here ∙ e))
 
-  pub joining-all : {i : ℕ} {f : Facts} → Joining i f → 17 ≤ i → from ≤ last-field → length (g .class) ≡ 17 → state f ≡ planned (state g) (Join into from by)
+  pub joining-all : {i : ℕ} {f : Facts} → Joining i f → field-places ≤ i → from ≤ last-field → length (g .class) ≡ field-places → state f ≡ planned (state g) (Join into from by)
   joining-all {i} {f} j h l s = λ x. record { classes = record { class = fun-ext class x; offset = fun-ext offset x }; noes = noes x }
     where
       outside : (k : ℕ) → i ≤ k → eqb (getD (g .class) k k) from ≡ false

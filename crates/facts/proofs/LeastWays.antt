@@ -15,8 +15,8 @@ use Rattle.facts.specs.declared.record.Facts.{Facts}
 use Rattle.facts.specs.declared.working.Worked.{Worked}
 use Rattle.facts.specs.Facts.{Fact}
 use Rattle.facts.specs.Least.{counts, can-count, least-count, fixed, least-sheet}
-use Rattle.facts.specs.LeastRecord.{CanFix, FixedAt, HasLeast, LeastCounts}
-use Rattle.facts.specs.Record.{state, last-field, most-noes, most-steps, Small, AllSmall, Holds, Ready, WorkedYes}
+use Rattle.facts.specs.Needs.{state, last-field, field-places, most-noes, Small, AllSmall, Holds, Askable, WorkedYes, CanFix, FixedAt, HasLeast, LeastCounts}
+use Rattle.terms.specs.Limits.{most-count}
 use Rattle.facts.specs.State.{State, at, Fit, free, yes-to, some-sheet}
 use Rattle.facts.proofs.HeldFacts.{small-more, holds-within, worked-yes, least-counts-bound}
 use Rattle.facts.proofs.LeastSheet.{counts-says, least-count-can, least-count-le, fixed-zero, fixed-at, fixed-down, least-sheet-fits}
@@ -24,7 +24,7 @@ use Rattle.facts.proofs.StateExact.{yes-out}
 use Rattle.facts.proofs.StateFree.{ZeroKept, free-fit, work-in-zero, state-of-zero}
 
 -- ---- one field
-fix-small : {x count : ℕ} → x ≤ last-field → count ≤ most-steps → Small most-steps (counts x count)
+fix-small : {x count : ℕ} → x ≤ last-field → count ≤ most-count → Small most-count (counts x count)
 fix-small h l = record { left-in = h; right-in = omega arith; left-steps = omega arith; right-steps = l }
 
 holds-more : {most-no m n : ℕ} {f : Facts} → m ≤ n → Holds most-no m f → Holds most-no n f
@@ -35,10 +35,10 @@ holds-more {m = m} {n = n} l h = record { facts = h .facts; small = all-more (h 
     all-more (x ∷ xs) a = (small-more l (a .0), all-more xs (a .1))
 
 module _ {f : Facts} {x : ℕ} (can : CanFix f x) {count : ℕ} (up-to : count ≤ least-count (state f) x) where
-  pub fix-ready : {q : Equation} → q ≡ counts x count → Ready f q
+  pub fix-ready : {q : Equation} → q ≡ counts x count → Askable f q
   fix-ready e = record {
     within = can .within;
-    small = subst (Small most-steps) (sym e) (fix-small (can .on-field) (omega (arith, can .small-count)));
+    small = subst (Small most-count) (sym e) (fix-small (can .on-field) (omega (arith, can .small-count)));
     fitted = can .fitted;
   }
 
@@ -67,16 +67,16 @@ module _ {f : Facts} {x : ℕ} (can : CanFix f x) {count : ℕ} (up-to : count �
 pub record FixedBelow (start : Facts) (i : ℕ) (f : Facts) (found : List ℕ) : Type 0 where
   pub done : ℕ
   pub i-is : i ≡ suc done
-  pub holds : Holds most-noes most-steps f
+  pub holds : Holds most-noes most-count f
   pub is : state f ≡ fixed done (state start)
-  pub size : length found ≡ 17
+  pub size : length found ≡ field-places
   pub count-at : (j : ℕ) → j < done → getD found (suc j) 0 ≡ least-count (fixed j (state start)) (suc j)
 
 module _ {start : Facts} {n : ℕ} (has : HasLeast start n) where
   start-zero : ZeroKept (state start .classes)
   start-zero = subst (λ (s : State). ZeroKept (s .classes)) (sym (has .holds .is)) (state-of-zero (has .holds .facts))
 
-  pub none-fixed : {found : List ℕ} → length found ≡ 17 → FixedBelow start 1 start found
+  pub none-fixed : {found : List ℕ} → length found ≡ field-places → FixedBelow start 1 start found
   unfolding fixed
   none-fixed l = record {
     done = 0;
@@ -87,7 +87,7 @@ module _ {start : Facts} {n : ℕ} (has : HasLeast start n) where
     count-at = λ j h. absurd (omega arith);
   }
 
-  small-counts : (m : ℕ) → m < last-field → least-count (fixed m (state start)) (suc m) ≤ most-steps
+  small-counts : (m : ℕ) → m < last-field → least-count (fixed m (state start)) (suc m) ≤ most-count
   small-counts m h =
       let held = has .holds in
       rw (held .is) (omega (arith, has .few-steps, least-counts-bound (has .most) (held .facts) (held .small) (sym (ap free (held .is)) ∙ held .fitted) m h))
@@ -128,7 +128,7 @@ module _ {start : Facts} {n : ℕ} (has : HasLeast start n) where
       count-at = λ j h. go j h (ℕ-discrete j (b .done));
     }
       where
-        fixed-small : Small most-steps (counts i (least-count (state f) i))
+        fixed-small : Small most-count (counts i (least-count (state f) i))
         fixed-small = fix-small (omega (arith, has .few-fields)) (can-fix .small-count)
 
         go : (j : ℕ) → j < suc (b .done) → Dec (j ≡ b .done) → getD (set found i (r .count)) (suc j) 0 ≡ least-count (fixed j (state start)) (suc j)

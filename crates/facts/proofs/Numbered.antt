@@ -7,18 +7,18 @@ use native.Mathlib.Decide.{decLe, ℕ-discrete}
 use lib.ListN.{length, getD, set, replicate, length-set}
 use lib.Seq.{getD-set-same, getD-set-other}
 use Rattle.facts.specs.declared.record.Facts.{Facts}
-use Rattle.facts.specs.Record.{state, noes-in}
+use Rattle.facts.specs.Needs.{state, noes-in, field-places}
 use Rattle.facts.specs.State.{start}
 
 pub record Numbered (i : ℕ) (f : Facts) : Type 0 where
-  pub up-to : i ≤ 17
-  pub size : length (f .class) ≡ 17
+  pub up-to : i ≤ field-places
+  pub size : length (f .class) ≡ field-places
   pub own : (k : ℕ) → k < i → getD (f .class) k k ≡ k
-  pub offsets : f .offset ≡ replicate 17 0
+  pub offsets : f .offset ≡ replicate field-places 0
   pub noes-none : f .noes ≡ 0
 
 -- one field more
-pub number-next : {i : ℕ} {f : Facts} → Numbered i f → i < 17
+pub number-next : {i : ℕ} {f : Facts} → Numbered i f → i < field-places
     → Numbered (i + 1) (record { class = set (f .class) i i; offset = f .offset; left = f .left; right = f .right; noes = f .noes })
 number-next {i} {f} n h = record {
   up-to = omega arith;
@@ -43,7 +43,7 @@ getD-zeros zero k = refl
 getD-zeros (suc n) zero = refl
 getD-zeros (suc n) (suc k) = getD-zeros n k
 
-pub numbered-start : {i : ℕ} {f : Facts} → Numbered i f → 17 ≤ i → state f ≡ start
+pub numbered-start : {i : ℕ} {f : Facts} → Numbered i f → field-places ≤ i → state f ≡ start
 unfolding noes-in
 numbered-start {i} {f} n h = λ j. record { classes = record { class = fun-ext class j; offset = fun-ext offset j }; noes = noes j }
   where
@@ -54,7 +54,7 @@ numbered-start {i} {f} n h = λ j. record { classes = record { class = fun-ext c
     ]
 
     offset : (k : ℕ) → getD (f .offset) k 0 ≡ 0
-    offset k = rw (n .offsets) (getD-zeros 17 k)
+    offset k = rw (n .offsets) (getD-zeros field-places k)
 
     noes : noes-in (f .left) (f .right) (f .noes) ≡ []
     noes = rw (n .noes-none) refl

@@ -4,7 +4,8 @@ use mathlib.Core.Path.{_≡_}
 use mathlib.Core.Logic.{_≢_}
 use borrow.Author.Tests.{le-leb, lt-leb, eq-eqb, ne-eqb}
 use Rattle.facts.specs.declared.decision.Plan.the-variants.{Keep, Clash, Join}
-use Rattle.facts.specs.State.{plan, Down}
+use Rattle.facts.specs.Needs.{Down}
+use Rattle.facts.specs.State.{plan}
 
 module _ (p t a c : ℕ) where
   pub plan-keep : p ≡ t → a ≡ c → Keep ≡ plan p t a c

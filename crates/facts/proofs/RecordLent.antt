@@ -8,7 +8,7 @@ use Rattle.terms.specs.declared.term.Equation.{Equation}
 use Rattle.terms.proofs.term.Equation as E
 use Rattle.terms.proofs.term.Equation.Laws as E′
 use Rattle.facts.specs.declared.record.Facts.{Facts}
-use Rattle.facts.specs.Record.{state}
+use Rattle.facts.specs.Needs.{state}
 use Rattle.facts.specs.State.{no-to}
 use Rattle.facts.proofs.record.Facts as T
 use Rattle.facts.proofs.record.Facts.Laws as T′

@@ -13,7 +13,8 @@ use Rattle.terms.specs.Words.{equation, term-of, word-of}
 use Rattle.terms.specs.declared.term.Equation.{Equation}
 use Rattle.terms.specs.declared.term.Term.{Term}
 use Rattle.facts.specs.declared.record.Facts.{Facts}
-use Rattle.facts.specs.Record.{state, last-field, most-noes, most-steps, question-at, noes-in, Small}
+use Rattle.facts.specs.Needs.{state, last-field, most-noes, question-at, noes-in, Small}
+use Rattle.terms.specs.Limits.{most-count}
 use Rattle.facts.specs.State.{Classes, settled, none-settled, no-to}
 use Rattle.terms.proofs.TermWords.{term-of-word-of}
 
@@ -22,9 +23,6 @@ pub getD-inside : (xs : List ℕ) (k d e : ℕ) → k < length xs → getD xs k 
 getD-inside [] k d e h = absurd (omega arith)
 getD-inside (x ∷ xs) zero d e h = refl
 getD-inside (x ∷ xs) (suc k) d e h = getD-inside xs k d e (omega arith)
-
-pub read-class : (f : Facts) {k : ℕ} → length (f .class) ≡ 17 → k ≤ last-field → getD (f .class) k 0 ≡ state f .classes .class k
-read-class f {k} l h = getD-inside (f .class) k 0 k (omega arith)
 
 -- ---- a question answered no
 noes-in-set : (left right : List ℕ) (i x y k : ℕ) → k ≤ i → noes-in (set left i x) (set right i y) k ≡ noes-in left right k
@@ -35,7 +33,7 @@ noes-in-set left right i x y (suc k) h =
     rw (getD-set-other left i k x 0 n, getD-set-other right i k y 0 n, noes-in-set left right i x y k (omega arith))
 
 -- one question more, at the place after the last
-pub listed-no : (f : Facts) (q : Equation) → Small most-steps q → length (f .left) ≡ 20 → length (f .right) ≡ 20 → f .noes < most-noes
+pub listed-no : (f : Facts) (q : Equation) → Small most-count q → length (f .left) ≡ most-noes → length (f .right) ≡ most-noes → f .noes < most-noes
     → {x y : ℕ} → x ≡ word-of (q .left) → y ≡ word-of (q .right)
     → state (record { class = f .class; offset = f .offset; left = set (f .left) (f .noes) x; right = set (f .right) (f .noes) y; noes = f .noes + 1 }) ≡ no-to (state f) q
 unfolding noes-in

@@ -16,7 +16,8 @@ use Rattle.facts.specs.declared.decision.Plan.{Plan}
 use Rattle.facts.specs.declared.decision.Plan.the-variants.{Keep, Clash, Join}
 use Rattle.facts.specs.declared.record.Facts.{Facts}
 use Rattle.facts.specs.declared.working.Worked.{Worked}
-use Rattle.facts.specs.Record.{state, last-field, most-steps, most-offset, noes-in, Ready, CanJoin, WorkedYes, AskedOf}
+use Rattle.facts.specs.Needs.{state, last-field, most-offset, noes-in, Askable, CanJoin, WorkedYes, AskedOf}
+use Rattle.terms.specs.Limits.{most-count}
 use Rattle.facts.specs.State.{State, settled, free, plan, plan-of, planned, yes-to, decide}
 use Rattle.facts.proofs.decision.Decision.{the-type}
 use Rattle.facts.proofs.PlanCases.{plan-cases}
@@ -61,7 +62,7 @@ pub clash-not-free : (s : State) → free (planned s Clash) ≡ false
 clash-not-free s =
     rw (eq-eqb (s .classes .class 0) (s .classes .class 0) refl, eq-eqb (s .classes .offset 0 + 0) (s .classes .offset 0 + 0) refl) refl
 
-module _ (f : Facts) (q : Equation) (r : Ready f q) {x : Plan} (ex : x ≡ plan-of (state f .classes) q) where
+module _ (f : Facts) (q : Equation) (r : Askable f q) {x : Plan} (ex : x ≡ plan-of (state f .classes) q) where
   yes-is : yes-to (state f) q ≡ planned (state f) x
   yes-is = ap (planned (state f)) (sym ex)
 
@@ -74,11 +75,11 @@ module _ (f : Facts) (q : Equation) (r : Ready f q) {x : Plan} (ex : x ≡ plan-
   worked-clash d = record { free-is = sym (ap free (yes-is ∙ ap (planned (state f)) d) ∙ clash-not-free (state f)); state-is = λ b. absurd (false≢true b) }
 
   module _ {into from by : ℕ} (d : x ≡ Join into from by) where
-    low : (into ≤ last-field) × (from ≤ last-field) × (by ≤ most-offset + most-steps)
+    low : (into ≤ last-field) × (from ≤ last-field) × (by ≤ most-offset + most-count)
     low =
         let w = r .within in
         let s = r .small in
-        plan-bounded _ _ _ _ into from by last-field (most-offset + most-steps) (w .class-in (q .left .field .0) (s .left-in)) (w .class-in (q .right .field .0) (s .right-in))
+        plan-bounded _ _ _ _ into from by last-field (most-offset + most-count) (w .class-in (q .left .field .0) (s .left-in)) (w .class-in (q .right .field .0) (s .right-in))
         (omega (arith, w .offset-in (q .left .field .0) (s .left-in), s .left-steps)) (omega (arith, w .offset-in (q .right .field .0) (s .right-in), s .right-steps))
         (sym ex ∙ d)
 

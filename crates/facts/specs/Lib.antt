@@ -1,5 +1,4 @@
 pub mod Facts
 pub mod State
 pub mod Least
-pub mod Record
-pub mod LeastRecord
+pub mod Needs

@@ -1,8 +1,7 @@
 -- The facts worked into one state, with no bound on fields, steps or facts. Each field has a class and an offset: its count is the base of its
 -- class plus the offset. Class 0's base is 0, the others' are free. Beside them stand the questions answered no.
-use Prim.Native.Nat.{ℕ, _+_, _-_, _*_, _≤_}
+use Prim.Native.Nat.{ℕ, _+_, _-_, _*_}
 use mathlib.Core.Path.{_≡_}
-use mathlib.Core.Logic.{_≢_}
 use mathlib.Core.Bool.{Bool, true, false, cond, not, _&&_}
 use mathlib.Core.List.{List, [], _∷_}
 use lib.Dec.{eqb, leb}
@@ -123,8 +122,3 @@ spacing c (q ∷ qs) = left-side c q + right-side c q + spacing c qs
 -- a choice of counts that fits, if any does: class k's base is k times the spacing
 unfoldable pub some-sheet : State → Valuation
 some-sheet s f = s .classes .class (f .0) * spacing (s .classes) (s .noes) + s .classes .offset (f .0)
-
--- p and t differ, and c is at most a: where `plan` looks down from p
-pub record Down (p t a c : ℕ) : Type 0 where
-  pub differ : p ≢ t
-  pub at-most : c ≤ a

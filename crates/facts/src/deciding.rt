@@ -3,7 +3,7 @@ ghost use mathlib.Core.Path.{_≡_};
 ghost use mathlib.Core.Bool.{_&&_};
 ghost use Prim.Native.Nat.{_+_, _<_, _^_};
 ghost use lib.Dec.{eqb};
-ghost use Rattle.facts.specs.Record as spec;
+ghost use Rattle.facts.specs.Needs as spec;
 ghost use Rattle.facts.specs.State as state;
 use crate::decision::Decision;
 use crate::decision::Plan;
@@ -81,7 +81,7 @@ fn join_settles<'a>(
 
 // What the facts say of a question.
 pub fn decision_of(f: Facts, q: Equation) -> Decision
-    requires { ⌜ spec.Ready f q ⌝ }
+    requires { ⌜ spec.Askable f q ⌝ }
     ensures { λ r. ⌜ r ≡ state.decide (spec.state f) q ⌝ }
 {
     match plan_in(&f.class, &f.offset, q) {

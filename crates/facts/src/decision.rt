@@ -1,5 +1,6 @@
 // What the facts say of a question, and what a question answered yes asks of them.
 ghost use mathlib.Core.Path.{_≡_};
+ghost use Rattle.facts.specs.Needs.{Down};
 ghost use Rattle.facts.specs.State as state;
 
 // A question is true under every choice of counts that fits the facts, false under every such choice, or neither.
@@ -41,7 +42,7 @@ pub fn plan_yes(p: u32, t: u32, a: u32, c: u32) -> Plan
 
 // The same where p and t differ and c is at most a.
 fn down(p: u32, t: u32, a: u32, c: u32) -> Plan
-    requires { ⌜ state.Down p t a c ⌝ }
+    requires { ⌜ Down p t a c ⌝ }
     ensures { λ r. ⌜ r ≡ state.plan p t a c ⌝ }
 {
     if t == 0 {

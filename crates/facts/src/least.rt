@@ -1,7 +1,7 @@
 // The least sheet that fits the facts.
 ghost use mathlib.Core.Path.{_≡_};
 ghost use Rattle.facts.specs.Least as least;
-ghost use Rattle.facts.specs.LeastRecord as spec;
+ghost use Rattle.facts.specs.Needs as spec;
 use crate::record::FIELDS;
 use crate::record::Facts;
 use crate::record::offset_of;

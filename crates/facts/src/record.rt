@@ -2,14 +2,16 @@
 ghost use mathlib.Core.Path.{_≡_};
 ghost use Prim.Native.Nat.{_≤_};
 ghost use lib.ListN.{getD};
-ghost use Rattle.facts.specs.Record as spec;
+ghost use Rattle.facts.specs.Needs as spec;
 ghost use Rattle.facts.specs.State as state;
 use terms::Field;
+use terms::MOST_FIELDS;
+use terms::MOST_QUESTIONS;
 
 // The fields that a record has room for, field 0 among them, and the questions answered no.
-pub const FIELDS: usize = 17;
+pub const FIELDS: usize = MOST_FIELDS as usize + 1;
 
-pub const NOES: usize = 20;
+pub const NOES: usize = MOST_QUESTIONS as usize;
 
 // A number for each field, and a word for each question answered no.
 pub type Numbers = [u32; FIELDS];

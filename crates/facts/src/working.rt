@@ -3,7 +3,7 @@ ghost use mathlib.Core.Path.{_≡_};
 ghost use mathlib.Core.Bool.{false};
 ghost use Prim.Native.Nat.{ℕ, _+_, _≤_, _<_, _^_};
 ghost use lib.ListN.{getD};
-ghost use Rattle.facts.specs.Record as spec;
+ghost use Rattle.facts.specs.Needs as spec;
 ghost use Rattle.facts.specs.State as state;
 use crate::deciding::decision_of;
 use crate::deciding::join_is_free;
@@ -55,7 +55,7 @@ fn join(mut f: Facts, into: u32, from: u32, by: u32) -> Facts
 
 // The facts with a question answered yes, if some choice of counts fits them then.
 pub fn yes(f: Facts, q: Equation) -> Worked
-    requires { ⌜ spec.Ready f q ⌝ }
+    requires { ⌜ spec.Askable f q ⌝ }
     ensures { λ r. ⌜ spec.WorkedYes f q r ⌝ }
 {
     match plan_in(&f.class, &f.offset, q) {
@@ -76,7 +76,7 @@ pub fn yes(f: Facts, q: Equation) -> Worked
 
 // The facts with a question answered no, by value: what `add` does to a record that is lent to it.
 pub fn with_no(mut f: Facts, q: Equation) -> Facts
-    requires { ⌜ spec.CanAdd f q ⌝ }
+    requires { ⌜ spec.CanAddNo f q ⌝ }
     ensures { λ r. ⌜ spec.state r ≡ state.no-to (spec.state f) q ⌝ }
 {
     let i = f.noes;
@@ -88,7 +88,7 @@ pub fn with_no(mut f: Facts, q: Equation) -> Facts
 
 // What the facts say of a question and, where it is open, the facts with it answered yes.
 pub fn ask(f: Facts, q: Equation) -> Asked
-    requires { ⌜ spec.Ready f q ⌝ }
+    requires { ⌜ spec.Askable f q ⌝ }
     ensures { λ r. ⌜ spec.AskedOf f q r ⌝ }
 {
     let decision = decision_of(f, q);

@@ -6,7 +6,7 @@ use mathlib.Core.List.{List}
 use native.Mathlib.Omega.{arith}
 use lib.ListN.{getD, set, replicate, length-set, length-replicate, getD-replicate}
 use lib.Seq.{getD-set-same, getD-set-other}
-use Rattle.index.specs.Chains.{Top, Chains}
+use Rattle.index.specs.Needs.{Top, Chains}
 use Rattle.terms.proofs.Cases.{by-eq}
 
 module _ (f : ℕ → ℕ) where

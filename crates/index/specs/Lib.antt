@@ -1,3 +1,1 @@
-pub mod Capacity
-pub mod Entries
-pub mod Chains
+pub mod Needs

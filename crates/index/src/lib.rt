@@ -1,13 +1,18 @@
 // An index over the entries of a store: an equal entry is found, and equal entries are ruled out, in near-linear time.
 ghost use mathlib.Core.Path.{_≡_};
 ghost use Prim.Native.Nat.{_+_};
-ghost use Rattle.index.specs.Entries.{Fit, entry-of, is-entry, find-entry, differ-below};
-ghost use Rattle.index.specs.Chains.{Hash, Indexed, Empty, Ready, Loaded};
+ghost use Rattle.index.specs.Needs.{EntriesFit, Hash, Indexed, Empty, Searchable, Loaded};
+ghost use Rattle.store.specs.Entries.{find-entry};
+ghost use Rattle.store.specs.Sound.{differ-below};
+use store::Entry;
+use store::entry_from;
+use store::same_entry;
+use terms::MOST_ENTRIES;
 
 // How many entries an index holds, and over how many buckets it spreads them.
-pub const CAPACITY: usize = 4096;
+pub const CAPACITY: usize = MOST_ENTRIES as usize;
 
-pub const BUCKETS: usize = 4096;
+pub const BUCKETS: usize = CAPACITY;
 
 // For each bucket the last entry in it, and for each entry the one before it in its bucket: one more than the entry's
 // number, and 0 where there is none.
@@ -15,83 +20,57 @@ pub type Lasts = [u16; BUCKETS];
 
 pub type Links = [u16; CAPACITY];
 
-// The bucket of the entry with question number q, yes handle y and no handle n.
-fn hash(q: u32, y: u32, n: u32) -> usize
-    ensures { λ r. ⌜ Hash (entry-of q y n) r ⌝ }
+// The bucket of an entry.
+fn hash(e: Entry) -> usize
+    ensures { λ r. ⌜ Hash e r ⌝ }
 {
-    let sum = q as u64 * 524114809 + y as u64 * 1518500249 + n as u64 * 1859775393;
+    let sum = e.question as u64 * 524114809 + e.yes as u64 * 1518500249 + e.no as u64 * 1859775393;
     (sum / 1048576) as usize % BUCKETS
 }
 
 // A link as a number of entries.
-fn wide(link: u16) -> usize
+fn link_number(link: u16) -> usize
     ensures { λ r. ⌜ r ≡ link ⌝ }
 {
     link as usize
 }
 
-// Whether the i-th entry is (q, y, n).
-fn is_entry(s: &[u32], start: usize, i: usize, q: u32, y: u32, n: u32) -> bool
-    requires { ⌜ Fit (now s) start (i + 1) ⌝ }
-    ensures { λ r. ⌜ r ≡ is-entry (now (s .entry)) (entry-of q y n) i ⌝ }
+// The number of the entry among the first `used` that is e, or `used` where none is.
+pub fn find(s: &[u32], start: usize, used: usize, e: Entry, lasts: &Lasts, links: &Links) -> usize
+    requires { ⌜ Searchable (now s) start used (now lasts) (now links) ⌝ }
+    ensures { λ r. ⌜ r ≡ find-entry (now (s .entry)) used e ⌝ }
 {
-    let at = start + 3 * i;
-    if s[at] != q {
-        return false;
-    }
-    if s[at + 1] != y {
-        return false;
-    }
-    s[at + 2] == n
-}
-
-// The number of the entry among the first `used` that is (q, y, n), or `used` where none is.
-pub fn find(
-    s: &[u32],
-    start: usize,
-    used: usize,
-    q: u32,
-    y: u32,
-    n: u32,
-    lasts: &Lasts,
-    links: &Links,
-) -> usize
-    requires { ⌜ Ready (now s) start used (now lasts) (now links) ⌝ }
-    ensures { λ r. ⌜ r ≡ find-entry (now (s .entry)) used (entry-of q y n) ⌝ }
-{
-    let mut p = wide(lasts[hash(q, y, n)]);
+    let mut p = link_number(lasts[hash(e)]);
     while 0 < p {
         let i = p - 1;
-        if is_entry(s, start, i, q, y, n) {
+        if same_entry(entry_from(s, start, i), e) {
             return i;
         }
-        p = wide(links[i]);
+        p = link_number(links[i]);
     }
     used
 }
 
 // The i-th entry goes into the index of the entries before it.
 pub fn put(s: &[u32], start: usize, i: usize, lasts: &mut Lasts, links: &mut Links)
-    requires { ⌜ Fit (now s) start (i + 1) ⌝ }
+    requires { ⌜ EntriesFit (now s) start (i + 1) ⌝ }
     requires { ⌜ Indexed (now s) i (now lasts) (now links) ⌝ }
     ensures { λ r. ⌜ Indexed (now (s .entry)) (i + 1) (now (lasts .exit)) (now (links .exit)) ⌝ }
 {
-    let at = start + 3 * i;
-    let b = hash(s[at], s[at + 1], s[at + 2]);
+    let b = hash(entry_from(s, start, i));
     links[i] = lasts[b];
     lasts[b] = i as u16 + 1;
 }
 
 // Whether no two of the first `used` entries are equal; if so, they go into the index, which is lent empty.
 pub fn load(s: &[u32], start: usize, used: usize, lasts: &mut Lasts, links: &mut Links) -> bool
-    requires { ⌜ Fit (now s) start used ⌝ }
+    requires { ⌜ EntriesFit (now s) start used ⌝ }
     requires { ⌜ Empty (now lasts) (now links) ⌝ }
     ensures { λ r. ⌜ Loaded r (now (s .entry)) start used (now (lasts .exit)) (now (links .exit)) ⌝ }
 {
     let mut i: usize = 0;
     while i < used {
-        let at = start + 3 * i;
-        if find(s, start, i, s[at], s[at + 1], s[at + 2], lasts, links) < i {
+        if find(s, start, i, entry_from(s, start, i), lasts, links) < i {
             return false;
         }
         put(s, start, i, lasts, links);
@@ -102,7 +81,7 @@ pub fn load(s: &[u32], start: usize, used: usize, lasts: &mut Lasts, links: &mut
 
 // Whether no two of the first `used` entries are equal.
 pub fn entries_differ(s: &[u32], start: usize, used: usize) -> bool
-    requires { ⌜ Fit (now s) start used ⌝ }
+    requires { ⌜ EntriesFit (now s) start used ⌝ }
     ensures { λ r. ⌜ r ≡ differ-below (now (s .entry)) used ⌝ }
 {
     let mut lasts = [0u16; BUCKETS];

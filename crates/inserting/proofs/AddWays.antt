@@ -11,14 +11,14 @@ use lib.Seq.{getD-append-add, getD-take, getD-set-same, getD-set-other, ext-getD
 use Rattle.diagram.specs.declared.placing.Placed.{Placed}
 use Rattle.diagram.specs.declared.placing.Placed.the-variants.{At, Full}
 use Rattle.facts.specs.declared.record.Facts.{Facts}
-use Rattle.facts.specs.Record.{state}
+use Rattle.facts.specs.Needs.{state}
 use Rattle.facts.specs.State.{start}
 use Rattle.index.specs.Entries.{Fit, differ-below}
 use Rattle.index.specs.Chains.{Loaded}
 use Rattle.operations.specs.declared.answer.Built.{Built}
 use Rattle.operations.specs.declared.answer.Built.the-variants.{Handle, NoRoom}
 use Rattle.operations.specs.Operations.{unless-full}
-use Rattle.store.specs.declared.limits.Limits.{Limits}
+use Rattle.terms.specs.declared.limits.Limits.{Limits}
 use Rattle.store.specs.Layout.{heading-length, question-count, used, entries-start}
 use Rattle.store.specs.Outcome.{Outcome, outcome}
 use Rattle.walking.specs.declared.subject.Subject.{Subject}
@@ -26,7 +26,8 @@ use Rattle.walking.specs.Ready.{CanWalk, InIndex}
 use Rattle.walking.specs.Walk.{walk}
 use Rattle.inserting.specs.Walked.{whole-walk, walked, restored, CanAdd}
 use Rattle.index.proofs.IndexLaws.{all-apart}
-use Rattle.store.proofs.SoundFacts.{Sound, sound-says, used-fits, used-few}
+use Rattle.store.specs.SoundParts.{Sound}
+use Rattle.store.proofs.SoundFacts.{sound-says, used-fits, used-few}
 use Rattle.store.proofs.StoreWords.{Agree, questions-agree}
 use Rattle.walking.proofs.SoundWalkable.{sound-walkable, can-begin}
 use Rattle.walking.proofs.WalkKeeps.{GoesOn, walk-goes}

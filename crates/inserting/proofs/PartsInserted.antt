@@ -11,7 +11,7 @@ use Rattle.diagram.specs.declared.placing.Placed.{Placed}
 use Rattle.diagram.specs.declared.placing.Placed.the-variants.{At, Full}
 use Rattle.diagram.specs.Finish.{parts}
 use Rattle.diagram.specs.Insert.{an-entry, place-entry, then-place, insert}
-use Rattle.store.specs.declared.limits.Limits.{Limits}
+use Rattle.terms.specs.declared.limits.Limits.{Limits}
 use Rattle.store.specs.Layout.{question-count}
 use Rattle.store.specs.Outcome.{Outcome, outcome}
 use Rattle.store.specs.Tree.{Tree, node, tree, Ascending, Reduced}
@@ -19,7 +19,7 @@ use Rattle.walking.specs.Walk.{place-parts}
 use Rattle.diagram.proofs.InsertAgain.{insert-again}
 use Rattle.diagram.proofs.InsertTree.{Puts, then-cases, insert-puts}
 use Rattle.diagram.proofs.Trees.{parts-cases}
-use Rattle.store.proofs.SoundFacts.{Sound}
+use Rattle.store.specs.SoundParts.{Sound}
 use Rattle.store.proofs.SoundTree.{falling}
 use Rattle.store.proofs.StoreWords.{questions-agree, tree-agrees}
 

@@ -7,7 +7,7 @@ use mathlib.Core.List.{List}
 use Rattle.facts.specs.Facts.{Fact, Fits}
 use Rattle.facts.specs.State.{State, free, state-of}
 use Rattle.operations.specs.Table.{table-fault}
-use Rattle.store.specs.declared.limits.Limits.{Limits}
+use Rattle.terms.specs.declared.limits.Limits.{Limits}
 use Rattle.store.specs.Layout.{question-count, question, used, leaves}
 use Rattle.store.specs.Tree.{tree}
 use Rattle.terms.specs.Meaning.{Valuation}
@@ -17,7 +17,7 @@ use Rattle.walking.specs.Value.{choose-value, tree-value, subject-value}
 use Rattle.inserting.specs.SubjectMeaning.{subject-meaning}
 use Rattle.diagram.proofs.InsertTree.{Grown}
 use Rattle.operations.proofs.TableListed.{accepts}
-use Rattle.store.proofs.SoundFacts.{Sound}
+use Rattle.store.specs.SoundParts.{Sound}
 use Rattle.store.proofs.SoundTree.{falling}
 use Rattle.store.proofs.StoreWords.{question-agrees, tree-agrees}
 use Rattle.inserting.proofs.ValueKnown.{Known, SettledTo, known-table, known-choice}

@@ -9,17 +9,18 @@ use native.Mathlib.Decide.{ℕ-discrete}
 use borrow.Author.Tests.{eqb-true, eqb-false, eq-eqb, leb-true, ltb-true, ltb-false}
 use lib.Dec.{eqb, leb, ltb}
 use lib.ListN.{length}
-use Rattle.facts.specs.Record.{last-field, most-steps, Small}
+use Rattle.facts.specs.Needs.{last-field, Small}
+use Rattle.terms.specs.Limits.{most-count}
 use Rattle.operations.specs.declared.answer.Built.{Built}
 use Rattle.operations.specs.declared.answer.Built.the-variants.{BadRow, OutOfLimits, NotListed, NoWords, NotRows, TooManyRows}
 use Rattle.operations.specs.Table.{guard-listed, well-formed, fine, equation-fault, row-fault, rows-fault, table-fault}
-use Rattle.store.specs.declared.limits.Limits.{Limits}
+use Rattle.terms.specs.declared.limits.Limits.{Limits}
 use Rattle.store.specs.Layout.{field-count}
-use Rattle.store.specs.Limits.{terms-within}
+use Rattle.terms.specs.Limits.{terms-within}
 use Rattle.tables.specs.Rows.{row-length, row-count, Row, row}
 use Rattle.tables.specs.WriteBack.{most-rows}
 use Rattle.terms.specs.declared.term.Term.{Term}
-use Rattle.terms.specs.declared.term.TermLimits.{TermLimits}
+use Rattle.terms.specs.declared.limits.TermLimits.{TermLimits}
 use Rattle.terms.specs.Simplify.{simplify}
 use Rattle.terms.specs.Words.{term-of, allows}
 use Rattle.walking.specs.Ready.{GoodRow, GoodTable}
@@ -59,15 +60,15 @@ module _ (i : ℕ) (r : Row) (w : well-formed i r ≡ true) where
       (ltb-true (r .a) i (all .0), ltb-true (r .b) i (all .1), ltb-true (r .c) i (all .2))
 
 -- ---- terms within limits
-module _ (limits : TermLimits) (s : List ℕ) (fields : limits .field .0 ≤ last-field) (steps : limits .steps .0 ≤ most-steps) where
-  term-small : (t : Term) → allows limits t ≡ true → (t .field .0 ≤ last-field) × (t .steps .0 ≤ most-steps)
+module _ (limits : TermLimits) (s : List ℕ) (fields : limits .field .0 ≤ last-field) (steps : limits .steps .0 ≤ most-count) where
+  term-small : (t : Term) → allows limits t ≡ true → (t .field .0 ≤ last-field) × (t .steps .0 ≤ most-count)
   unfolding allows
   term-small t e =
       let f = leb-true (t .field .0) (limits .field .0) (passes (leb (t .field .0) (limits .field .0)) (λ f. rw f at e)) in
       let k = leb-true (t .steps .0) (limits .steps .0) (passes (leb (t .steps .0) (limits .steps .0)) (λ f. simp (f, and-false) at e)) in
       (omega arith, omega arith)
 
-  equation-small : (r : Row) → accepts (equation-fault limits s r) ≡ true → Small most-steps (row-equation r)
+  equation-small : (r : Row) → accepts (equation-fault limits s r) ≡ true → Small most-count (row-equation r)
   unfolding equation-fault
   equation-small r e =
       let l = term-of (r .a) in
@@ -108,7 +109,7 @@ test-fails false a b n e = refl
 some-row : (n : ℕ) → n ≢ 0 → n % row-length ≡ 0 → 1 ≤ n / row-length
 some-row n some whole = omega arith
 
-pub good-table : (limits : Limits) (s table : List ℕ) → field-count s ≤ last-field → limits .terms .steps .0 ≤ most-steps
+pub good-table : (limits : Limits) (s table : List ℕ) → field-count s ≤ last-field → limits .terms .steps .0 ≤ most-count
     → accepts (table-fault limits s table) ≡ true → GoodTable table
 unfolding table-fault
 good-table limits s table fields steps e =

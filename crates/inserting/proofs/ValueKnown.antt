@@ -12,7 +12,7 @@ use Rattle.facts.specs.declared.decision.Decision.the-variants.{Always, Never, 
 use Rattle.facts.specs.Facts.{Fact, Fits, Forces}
 use Rattle.facts.specs.State.{free, state-of, decide}
 use Rattle.operations.specs.Table.{table-fault}
-use Rattle.store.specs.declared.limits.Limits.{Limits}
+use Rattle.terms.specs.declared.limits.Limits.{Limits}
 use Rattle.store.specs.Layout.{question-count, question, used, leaves}
 use Rattle.store.specs.Tree.{Tree, leaf, node, tree, Ascending}
 use Rattle.tables.specs.Rows.{Row, row, row-count}
@@ -21,7 +21,7 @@ use Rattle.terms.specs.Meaning.{Valuation, truth}
 use Rattle.walking.specs.declared.subject.Subject.the-variants.{Choice}
 use Rattle.walking.specs.Value.{not-value, choose-value, and-value, tree-value, row-value, row-values, table-value, subject-value}
 use Rattle.facts.proofs.Decided.{decided}
-use Rattle.store.proofs.SoundFacts.{Sound}
+use Rattle.store.specs.SoundParts.{Sound}
 use Rattle.store.proofs.SoundTree.{tree-ascending}
 use Rattle.terms.proofs.Cases.{by-eq}
 use Rattle.operations.proofs.TableListed.{row-equation, Listed, accepts, table-listed, same-simplified}

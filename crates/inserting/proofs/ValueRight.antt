@@ -10,7 +10,7 @@ use Rattle.facts.specs.declared.decision.Decision.{Decision}
 use Rattle.facts.specs.declared.decision.Decision.the-variants.{Always, Never, Open}
 use Rattle.facts.specs.Facts.{Fact, Fits, Forces}
 use Rattle.facts.specs.State.{State, free, state-of, decide}
-use Rattle.store.specs.declared.limits.Limits.{Limits}
+use Rattle.terms.specs.declared.limits.Limits.{Limits}
 use Rattle.store.specs.Layout.{question, used, leaves}
 use Rattle.store.specs.Meaning.{meaning}
 use Rattle.store.specs.Tree.{Tree, leaf, node, tree, tree-truth}
@@ -22,7 +22,7 @@ use Rattle.walking.specs.declared.subject.Subject.the-variants.{Choice}
 use Rattle.walking.specs.Value.{not-value, agreed, choose-value, and-value, tree-value, row-value, row-values, table-value, subject-value}
 use Rattle.inserting.specs.SubjectMeaning.{subject-meaning}
 use Rattle.facts.proofs.Decided.{decided}
-use Rattle.store.proofs.SoundFacts.{Sound}
+use Rattle.store.specs.SoundParts.{Sound}
 use Rattle.store.proofs.SoundTree.{meaning-is-tree}
 
 -- what is said of a truth is right

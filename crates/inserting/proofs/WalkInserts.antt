@@ -15,7 +15,7 @@ use Rattle.facts.specs.declared.decision.Decision.{Decision}
 use Rattle.facts.specs.declared.decision.Decision.the-variants.{Always, Never, Open}
 use Rattle.facts.specs.Facts.{Fact, fact, Fits, Forces}
 use Rattle.facts.specs.State.{State, free, no-to, yes-to, start, state-of, decide}
-use Rattle.store.specs.declared.limits.Limits.{Limits}
+use Rattle.terms.specs.declared.limits.Limits.{Limits}
 use Rattle.store.specs.Layout.{question-count, question}
 use Rattle.store.specs.Outcome.{Outcome}
 use Rattle.terms.specs.declared.term.Equation.{Equation}
@@ -27,7 +27,7 @@ use Rattle.inserting.specs.SubjectMeaning.{subject-meaning}
 use Rattle.diagram.proofs.FinishTree.{finish-ascending, finish-reduced}
 use Rattle.diagram.proofs.FinishTruth.{forces, yes-free, no-free}
 use Rattle.diagram.proofs.InsertTree.{Grown, insert-puts}
-use Rattle.store.proofs.SoundFacts.{Sound}
+use Rattle.store.specs.SoundParts.{Sound}
 use Rattle.store.proofs.StoreWords.{questions-agree, question-agrees}
 use Rattle.inserting.proofs.PartsInserted.{then-same, PartAfter, parts-inserted}
 use Rattle.inserting.proofs.SubjectValue.{Given, value-right, value-known, value-later}

@@ -10,7 +10,7 @@ use Rattle.facts.specs.declared.decision.Decision.{Decision}
 use Rattle.facts.specs.declared.decision.Decision.the-variants.{Always, Never, Open}
 use Rattle.facts.specs.Facts.{Fact, Fits}
 use Rattle.facts.specs.State.{State, free, no-to, yes-to, state-of, decide}
-use Rattle.store.specs.declared.limits.Limits.{Limits}
+use Rattle.terms.specs.declared.limits.Limits.{Limits}
 use Rattle.store.specs.Layout.{question}
 use Rattle.store.specs.Outcome.{outcome}
 use Rattle.terms.specs.declared.term.Equation.{Equation}

@@ -8,7 +8,7 @@ use Rattle.diagram.specs.declared.placing.Placed.{Placed}
 use Rattle.facts.specs.State.{start}
 use Rattle.operations.specs.declared.answer.Built.{Built}
 use Rattle.operations.specs.Operations.{unless-full}
-use Rattle.store.specs.declared.limits.Limits.{Limits}
+use Rattle.terms.specs.declared.limits.Limits.{Limits}
 use Rattle.store.specs.Layout.{question-count, entries-start}
 use Rattle.store.specs.Outcome.{Outcome}
 use Rattle.store.specs.Sound.{sound}

@@ -7,7 +7,7 @@ use mathlib.Core.List.{List}
 use lib.ListN.{length}
 use Rattle.operations.specs.declared.answer.Built.the-variants.{Handle}
 use Rattle.operations.specs.Handles.{Call, negate, join, choose, answer-to, Rule, pair, first-ledger, rule-of, rule-of-call, Books, after, run, Formula, formula-truth, BooleanLaw, Worked, is-letter, is-never, is-always, is-not, is-and, is-if, meanwhile}
-use Rattle.store.specs.declared.limits.Limits.{Limits}
+use Rattle.terms.specs.declared.limits.Limits.{Limits}
 use Rattle.store.specs.declared.opening.Opened.the-variants.{Accepted}
 use Rattle.store.specs.Meaning.{meaning}
 use Rattle.store.specs.Open.{opening, opened-words}

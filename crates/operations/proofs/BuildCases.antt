@@ -7,10 +7,11 @@ use Rattle.operations.specs.declared.answer.Built.{Built}
 use Rattle.operations.specs.declared.answer.Built.the-variants.{Handle, NotSound, NoHandle, NoWords, NotRows, TooManyRows, BadRow, OutOfLimits, NotListed, NoRoom}
 use Rattle.operations.specs.Operations.{add-meaning, build}
 use Rattle.operations.specs.Table.{table-fault}
-use Rattle.store.specs.declared.limits.Limits.{Limits}
+use Rattle.terms.specs.declared.limits.Limits.{Limits}
 use Rattle.store.specs.Outcome.{Outcome, outcome}
 use Rattle.tables.specs.Rows.{rule-meaning}
-use Rattle.store.proofs.SoundFacts.{Sound, sound-from}
+use Rattle.store.specs.SoundParts.{Sound}
+use Rattle.store.proofs.SoundFacts.{sound-from}
 use Rattle.operations.proofs.TableListed.{accepts}
 
 pub build-cases : {limits : Limits} {s : List ℕ} → Sound limits s → (table : List ℕ) (P : Outcome Built → Type 0)

@@ -12,7 +12,7 @@ use Rattle.operations.specs.Handles.{Call, build, negate, join, choose, 
 use Rattle.operations.specs.Operations as operation
 use Rattle.operations.specs.Operations.{add-meaning, is-handle}
 use Rattle.operations.specs.Table.{table-fault}
-use Rattle.store.specs.declared.limits.Limits.{Limits}
+use Rattle.terms.specs.declared.limits.Limits.{Limits}
 use Rattle.store.specs.declared.opening.Opened.the-variants.{Accepted}
 use Rattle.store.specs.Layout.{field-count}
 use Rattle.store.specs.Meaning.{meaning}
@@ -23,7 +23,8 @@ use Rattle.tables.specs.Rows.{rule-meaning}
 use Rattle.terms.specs.declared.term.Field.{Field}
 use Rattle.terms.specs.Meaning.{Valuation}
 use Rattle.store.proofs.OpenSound.{opened-sound}
-use Rattle.store.proofs.SoundFacts.{Sound, sound-says, sound-from}
+use Rattle.store.specs.SoundParts.{Sound}
+use Rattle.store.proofs.SoundFacts.{sound-says, sound-from}
 use Rattle.store.proofs.Tests.{first-passes, second-passes}
 use Rattle.terms.proofs.Cases.{by-test, by-eq}
 use Rattle.operations.proofs.BuildCases.{build-cases}

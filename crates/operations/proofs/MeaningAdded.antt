@@ -19,7 +19,7 @@ use Rattle.facts.specs.State.{start}
 use Rattle.operations.specs.declared.answer.Built.{Built}
 use Rattle.operations.specs.declared.answer.Built.the-variants.{Handle, NoRoom}
 use Rattle.operations.specs.Operations.{added, add-meaning}
-use Rattle.store.specs.declared.limits.Limits.{Limits}
+use Rattle.terms.specs.declared.limits.Limits.{Limits}
 use Rattle.store.specs.Layout.{question-count, question, used, leaves}
 use Rattle.store.specs.Meaning.{meaning}
 use Rattle.store.specs.Outcome.{Outcome, outcome}
@@ -29,7 +29,7 @@ use Rattle.diagram.proofs.FinishTree.{finish-ascending, finish-reduced}
 use Rattle.diagram.proofs.FinishTruth.{finish-truth, finish-same, finish-constant}
 use Rattle.diagram.proofs.InsertAgain.{insert-again}
 use Rattle.diagram.proofs.InsertTree.{Inserted, insert-tree}
-use Rattle.store.proofs.SoundFacts.{Sound}
+use Rattle.store.specs.SoundParts.{Sound}
 use Rattle.store.proofs.SoundTree.{meaning-is-tree, same-tree, tree-never, tree-always}
 use Rattle.operations.proofs.RestsOn.{Rests, rests-alike, rests-constant}
 use Rattle.operations.proofs.TableListed.{accepts}

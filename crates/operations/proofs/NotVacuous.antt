@@ -20,10 +20,10 @@ use Rattle.operations.specs.Handles.{Call, build, negate, join, choose, 
 use Rattle.operations.specs.Operations as operation
 use Rattle.operations.specs.Operations.{added, add-meaning, is-handle}
 use Rattle.operations.specs.Table.{guard-listed, well-formed, fine, equation-fault, row-fault, rows-fault, table-fault}
-use Rattle.store.specs.declared.limits.Limits.{Limits}
+use Rattle.terms.specs.declared.limits.Limits.{Limits}
 use Rattle.store.specs.declared.opening.Opened.the-variants.{Accepted}
 use Rattle.store.specs.Layout.{used, room, field-count}
-use Rattle.store.specs.Limits.{terms-within}
+use Rattle.terms.specs.Limits.{terms-within}
 use Rattle.store.specs.Meaning.{meaning}
 use Rattle.store.specs.Open.{opening, opened-words}
 use Rattle.store.specs.Outcome.{Outcome, outcome}
@@ -31,12 +31,13 @@ use Rattle.store.specs.Sound.{sound}
 use Rattle.store.specs.Tree.{Tree}
 use Rattle.tables.specs.Rows.{row-length, row-count, Row, row, rule-meaning}
 use Rattle.tables.specs.WriteBack.{most-rows}
-use Rattle.terms.specs.declared.term.TermLimits.{TermLimits}
+use Rattle.terms.specs.declared.limits.TermLimits.{TermLimits}
 use Rattle.terms.specs.Meaning.{Valuation}
 use Rattle.terms.specs.Simplify.{simplify}
 use Rattle.terms.specs.Words.{equation, term-of, allows}
 use Rattle.diagram.proofs.InsertCount.{GrowsBy, insert-count}
-use Rattle.store.proofs.SoundFacts.{Sound, sound-from}
+use Rattle.store.specs.SoundParts.{Sound}
+use Rattle.store.proofs.SoundFacts.{sound-from}
 use Rattle.operations.proofs.BuildCases.{build-cases}
 use Rattle.operations.proofs.HandleLaw.{opened-kept}
 use Rattle.operations.proofs.MeaningAdded.{finished-ascending, finished-reduced}

@@ -12,7 +12,7 @@ use Rattle.diagram.specs.Questions.{questions-from, questions}
 use Rattle.facts.specs.Least.{All}
 use Rattle.operations.specs.declared.answer.Built.the-variants.{Handle}
 use Rattle.operations.specs.Table.{table-fault}
-use Rattle.store.specs.declared.limits.Limits.{Limits}
+use Rattle.terms.specs.declared.limits.Limits.{Limits}
 use Rattle.store.specs.Layout.{field-count, question-count, question, used, entry, leaves}
 use Rattle.store.specs.Meaning.{meaning}
 use Rattle.tables.specs.Rows.{row-count, Row, row, row-truth, row-truths, rule-meaning}
@@ -21,7 +21,7 @@ use Rattle.terms.specs.declared.term.Field.{Field}
 use Rattle.terms.specs.declared.term.Term.{Term}
 use Rattle.terms.specs.Meaning.{Valuation, count, value, truth}
 use Rattle.store.proofs.Handles.{by-handles, leaf-stays}
-use Rattle.store.proofs.SoundFacts.{Sound}
+use Rattle.store.specs.SoundParts.{Sound}
 use Rattle.store.proofs.SoundList.{sound-question}
 use Rattle.store.proofs.SoundTree.{falling, meaning-entry}
 use Rattle.terms.proofs.Cases.{by-eq}

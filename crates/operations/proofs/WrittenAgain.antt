@@ -14,10 +14,10 @@ use Rattle.operations.specs.declared.answer.Built.the-variants.{Handle, 
 use Rattle.operations.specs.Handles.{Call, answer-to, Books, after, run}
 use Rattle.operations.specs.Operations as operation
 use Rattle.operations.specs.Table.{same-equation, on-list, guard-listed, well-formed, fine, equation-fault, row-fault, rows-fault, table-fault}
-use Rattle.store.specs.declared.limits.Limits.{Limits}
+use Rattle.terms.specs.declared.limits.Limits.{Limits}
 use Rattle.store.specs.declared.opening.Opened.the-variants.{Accepted, OutOfLimits as Outside, NotSimplified, NotAbove}
 use Rattle.store.specs.Layout.{heading-length, field-count, question-count, list-words, question-in, question, used, leaves}
-use Rattle.store.specs.Limits.{terms-within}
+use Rattle.terms.specs.Limits.{terms-within}
 use Rattle.store.specs.Open.{above-last, question-fault}
 use Rattle.store.specs.Outcome.{Outcome, outcome}
 use Rattle.store.specs.Sound.{sound}
@@ -27,11 +27,11 @@ use Rattle.tables.specs.Rows.{row-length, row-count, Row, row}
 use Rattle.tables.specs.WriteBack.{reachable, marked-before, written-rows, written-count, WellFormed, is-never, is-always, is-question, is-choice, most-rows, write-back, written-number, written-result}
 use Rattle.terms.specs.declared.simplification.Guard.the-variants.{Question}
 use Rattle.terms.specs.declared.term.Equation.{Equation}
-use Rattle.terms.specs.declared.term.TermLimits.{TermLimits}
+use Rattle.terms.specs.declared.limits.TermLimits.{TermLimits}
 use Rattle.terms.specs.Form.{is-simplified}
 use Rattle.terms.specs.Simplify.{simplify}
 use Rattle.terms.specs.Words.{equation, term-of, allows}
-use Rattle.store.proofs.SoundFacts.{Sound}
+use Rattle.store.specs.SoundParts.{Sound}
 use Rattle.store.proofs.SoundList.{each-accepted, accepted-allows}
 use Rattle.store.proofs.StoreWords.{question-words}
 use Rattle.tables.proofs.WrittenMeans.{written-means}

@@ -8,7 +8,7 @@ use lib.Dec.{eqb}
 use Rattle.operations.specs.declared.answer.Built.{Built}
 use Rattle.operations.specs.declared.answer.Built.the-variants.{Handle, NotSound, NoHandle, NoWords, NotRows, TooManyRows, BadRow, OutOfLimits, NotListed, NoRoom}
 use Rattle.operations.specs.Operations as operation
-use Rattle.store.specs.declared.limits.Limits.{Limits}
+use Rattle.terms.specs.declared.limits.Limits.{Limits}
 use Rattle.store.specs.Meaning.{meaning}
 use Rattle.store.specs.Outcome.{Outcome}
 use Rattle.tables.specs.Rows.{rule-meaning}

@@ -10,7 +10,7 @@ use Rattle.diagram.specs.Questions.{finished-in}
 use Rattle.operations.specs.declared.answer.Built.{Built}
 use Rattle.operations.specs.declared.answer.Built.the-variants.{Handle, NotSound, NoHandle, NoWords, NotRows, TooManyRows, BadRow, OutOfLimits, NotListed, NoRoom}
 use Rattle.operations.specs.Table.{table-fault}
-use Rattle.store.specs.declared.limits.Limits.{Limits}
+use Rattle.terms.specs.declared.limits.Limits.{Limits}
 use Rattle.store.specs.Layout.{used, leaves}
 use Rattle.store.specs.Meaning.{meaning}
 use Rattle.store.specs.Outcome.{Outcome, outcome}

@@ -6,8 +6,8 @@ use Rattle.operations.specs.declared.answer.Built.{Built}
 use Rattle.operations.specs.Answer.{built-number, built-result}
 use Rattle.sheet.specs.declared.answers.Answer.{Answer}
 use Rattle.sheet.specs.declared.answers.Simplified.{Simplified}
-use Rattle.sheets.specs.declared.answer.Read.{Read}
-use Rattle.sheets.specs.Read.{read-number, read-result}
+use Rattle.reading.specs.declared.answer.Read.{Read}
+use Rattle.reading.specs.Read.{read-number, read-result}
 use Rattle.store.specs.declared.opening.Opened.{Opened}
 use Rattle.store.specs.Open.{open-number}
 use Rattle.tables.specs.declared.answer.Written.{Written}

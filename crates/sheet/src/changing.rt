@@ -3,7 +3,7 @@ ghost use mathlib.Core.Path.{_≡_};
 ghost use Rattle.operations.specs.Operations as operation;
 ghost use Rattle.sheet.specs.Answered.{answered};
 ghost use Rattle.sheet.specs.Answers as spec;
-ghost use Rattle.store.specs.Limits as limit;
+ghost use Rattle.terms.specs.Limits as limit;
 ghost use Rattle.store.specs.Open.{open-store};
 ghost use Rattle.store.specs.Outcome.{outcome};
 use crate::answers::Answer;

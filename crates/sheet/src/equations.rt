@@ -2,7 +2,7 @@
 ghost use mathlib.Core.Path.{_≡_};
 ghost use Rattle.sheet.specs.Answers as spec;
 ghost use Rattle.terms.specs.Simplify as terms;
-ghost use Rattle.terms.specs.Words.{term-limits};
+ghost use Rattle.terms.specs.Limits.{term-limits};
 use crate::answers::Simplified;
 use crate::answers::simplified_answer;
 use terms::answer_of;

@@ -9,17 +9,19 @@ use borrow.Author.Tests.{le-leb, lt-leb, leb-true, eq-eqb, ne-eqb}
 use lib.Dec.{eqb, leb}
 use lib.ListN.{length, getD, take, drop, length-take, length-drop, drop-of-length-le}
 use lib.Seq.{drop-cons}
-use Rattle.store.specs.declared.limits.Limits.{Limits}
-use Rattle.store.specs.declared.opening.Opened.{Opened}
-use Rattle.store.specs.Layout.{heading-length, question-count, list-words, entries-start, room}
-use Rattle.store.specs.Limits.{store-limits, terms-within}
+use Rattle.index.specs.Needs.{EntriesFit}
+use Rattle.soundness.specs.Needs.{body-sound}
+use Rattle.store.specs.declared.answer.Opened.{Opened}
+use Rattle.store.specs.Layout.{heading-length, field-count, question-count, used, list-words, entries-start, room}
 use Rattle.store.specs.Open.{list-fault}
-use Rattle.store.specs.Sound.{all-below, all-zero, is-accepted, heading-sound, entry-sound, entries-differ, sound}
-use Rattle.terms.proofs.Cases.{by-le}
-use Rattle.index.proofs.Below.{and-both}
-use Rattle.index.specs.Capacity.{capacity}
-use Rattle.index.specs.Entries.{Fit, differ-below}
-use Rattle.soundness.specs.Parts.{body-sound}
+use Rattle.store.specs.Opened.{is-accepted}
+use Rattle.store.specs.Sound.{all-below, all-zero, heading-sound, entry-sound, differ-below, sound}
+use Rattle.terms.specs.declared.limits.Limits.{Limits}
+use Rattle.terms.specs.declared.limits.TermLimits.{TermLimits}
+use Rattle.terms.specs.Limits.{terms-within}
+use Rattle.terms.specs.Needs.{FitLimits}
+use Rattle.terms.specs.Order.{fields-first}
+use Rattle.store.proofs.Tests.{first-passes, second-passes}
 
 -- ---- the heading
 -- the words from the heading up to a place
@@ -31,13 +33,13 @@ module _ (limits : Limits) (s : List ℕ) where
   unfolding heading-sound
   heading-short h = simp (lt-leb (entries-start s) (length s) (omega arith), and-false)
 
-  pub too-many-fields : limits .terms .field .0 < getD s 0 0 → false ≡ heading-sound limits s
+  pub too-many-fields : {n : ℕ} → n ≡ field-count s → limits .terms .field .0 < n → false ≡ heading-sound limits s
   unfolding heading-sound
-  too-many-fields h = simp (lt-leb (getD s 0 0) (limits .terms .field .0) h)
+  too-many-fields e h = simp (lt-leb (field-count s) (limits .terms .field .0) (omega arith))
 
-  pub too-many-questions : limits .questions < getD s 1 0 → false ≡ heading-sound limits s
+  pub too-many-questions : {q : ℕ} → q ≡ question-count s → limits .questions < q → false ≡ heading-sound limits s
   unfolding heading-sound
-  too-many-questions h = simp (lt-leb (getD s 1 0) (limits .questions) h, and-false)
+  too-many-questions e h = simp (lt-leb (question-count s) (limits .questions) (omega arith), and-false)
 
   module _ {end : ℕ} (ee : end ≡ entries-start s) where
     pub list-cut : length s < end → false ≡ heading-sound limits s
@@ -52,53 +54,38 @@ module _ (limits : Limits) (s : List ℕ) where
         let l : length (list-words s) ≡ 2 * question-count s = simp (length-take, length-drop) (omega arith) in
         omega arith
 
-    pub by-list : {f : Opened} {r : Bool} → getD s 0 0 ≤ limits .terms .field .0 → getD s 1 0 ≤ limits .questions → end ≤ length s
-        → f ≡ list-fault (terms-within limits (getD s 0 0)) (part s end) (length (part s end) / 2) 0
+    pub by-list : {n q : ℕ} {t : TermLimits} {f : Opened} {r : Bool} → n ≡ field-count s → n ≤ limits .terms .field .0 → q ≡ question-count s → q ≤ limits .questions
+        → end ≤ length s → t ≡ terms-within limits n → f ≡ list-fault fields-first t (part s end) (length (part s end) / 2) 0
         → r ≡ is-accepted f → r ≡ heading-sound limits s
     unfolding heading-sound
-    by-list hf hq he ef er =
-        let d = rw (part-is, part-count he) at ef in
+    by-list en hf eq hq he et ef er =
+        let d = rw (part-is, part-count he, et, en) at ef in
         er ∙ ap is-accepted d
         ∙ simp (
-          le-leb (getD s 0 0) (limits .terms .field .0) hf,
-          le-leb (getD s 1 0) (limits .questions) hq,
+          le-leb (field-count s) (limits .terms .field .0) (omega arith),
+          le-leb (question-count s) (limits .questions) (omega arith),
           le-leb (entries-start s) (length s) (omega arith),
         )
 
   heading-long : {b : Bool} → b ≡ heading-sound limits s → b ≡ true → entries-start s ≤ length s
   unfolding heading-sound
   heading-long eb t =
-      let fields = leb (getD s 0 0) (limits .terms .field .0) in
-      let questions = leb (getD s 1 0) (limits .questions) in
+      let fields = leb (field-count s) (limits .terms .field .0) in
+      let questions = leb (question-count s) (limits .questions) in
       let long = leb (entries-start s) (length s) in
-      let kept = is-accepted (list-fault (terms-within limits (getD s 0 0)) (list-words s) (question-count s) 0) in
-      leb-true (entries-start s) (length s) (and-both (fields && questions) long (and-both (fields && questions && long) kept (sym eb ∙ t) .0) .1)
-
--- ---- the room
-module _ (limits : Limits) (s : List ℕ) {start : ℕ} (k : ℕ) (es : start ≡ entries-start s) where
-  pub room-short : (length s - start) / 3 < k → false ≡ leb k (room limits s)
-  room-short h = sym (lt-leb k (room limits s) (omega arith))
-
-  pub by-limit : {m : ℕ} → k ≤ (length s - start) / 3 → m ≡ limits .entries → leb k m ≡ leb k (room limits s)
-  by-limit h e =
-      by-le (λ t. t ≡ leb k (room limits s)) k _
-      (λ l. sym (le-leb k (room limits s) (omega arith)))
-      (λ l. sym (lt-leb k (room limits s) (omega arith)))
+      let kept = is-accepted (list-fault fields-first (terms-within limits (field-count s)) (list-words s) (question-count s) 0) in
+      leb-true (entries-start s) (length s) (second-passes (fields && questions) long (first-passes (fields && questions && long) kept (sym eb ∙ t)))
 
 -- ---- after the heading
 module _ (limits : Limits) (s : List ℕ) {b : Bool} (eb : b ≡ heading-sound limits s) (t : b ≡ true) where
   pub heading-whole : heading-length ≤ length s
   heading-whole = let h = heading-long limits s eb t in omega arith
 
-  module _ {start : ℕ} (es : start ≡ entries-start s) where
-    pub start-within : start ≤ length s
-    start-within = let h = heading-long limits s eb t in omega arith
+  pub list-within : entries-start s ≤ length s
+  list-within = heading-long limits s eb t
 
-    pub room-fits : {k : ℕ} {a : Bool} → limits .entries ≤ capacity → a ≡ leb k (room limits s) → a ≡ true → Fit s start k
-    room-fits {k} l ea ta =
-        let h = leb-true k (room limits s) (sym ea ∙ ta) in
-        let w = start-within in
-        record { begin = es; within = omega arith; few = omega arith }
+  pub room-fits : {start k r : ℕ} → FitLimits limits → r ≡ room limits s → k ≤ r → start ≡ entries-start s → EntriesFit s start k
+  room-fits fit er h es = record { begin = es; within = omega (arith, list-within); few = omega (arith, fit .entries-fit) }
 
 -- ---- the unused words
 module _ (s : List ℕ) (from : ℕ) where
@@ -131,7 +118,7 @@ module _ (s : List ℕ) (k : ℕ) where
   unfolding body-sound
   entries-equal eb d = rw (← eb, d, and-false)
 
-  pub by-zeros : {start : ℕ} {a b r : Bool} → Fit s start k → a ≡ all-below k (entry-sound s) → a ≡ true → b ≡ differ-below s k → b ≡ true
+  pub by-zeros : {start : ℕ} {a b r : Bool} → EntriesFit s start k → a ≡ all-below k (entry-sound s) → a ≡ true → b ≡ differ-below s k → b ≡ true
       → r ≡ all-zero (drop (start + 3 * k) s) → r ≡ body-sound s k
   unfolding body-sound
   by-zeros f ea ta eb tb er = er ∙ rw (f .begin, ← ea, ta, ← eb, tb)
@@ -142,27 +129,22 @@ regroup true b c d = refl
 regroup false b c d = refl
 
 module _ (limits : Limits) (s : List ℕ) where
-  parts : sound limits s ≡ (heading-sound limits s && leb (getD s 2 0) (room limits s) && body-sound s (getD s 2 0))
-  unfolding sound entries-differ differ-below body-sound
+  parts : sound limits s ≡ (heading-sound limits s && leb (used s) (room limits s) && body-sound s (used s))
+  unfolding sound body-sound
   parts =
-      regroup (heading-sound limits s && leb (getD s 2 0) (room limits s)) (all-below (getD s 2 0) (entry-sound s)) (entries-differ s)
-      (all-zero (drop (entries-start s + 3 * getD s 2 0) s))
+      regroup (heading-sound limits s && leb (used s) (room limits s)) (all-below (used s) (entry-sound s)) (differ-below s (used s))
+      (all-zero (drop (entries-start s + 3 * used s) s))
 
   module _ {a : Bool} (ea : a ≡ heading-sound limits s) where
     pub heading-fails : a ≡ false → false ≡ sound limits s
     heading-fails d = sym (parts ∙ rw (← ea, d))
 
-    module _ {used : ℕ} {b : Bool} (eu : used ≡ getD s 2 0) (eb : b ≡ leb used (room limits s)) where
-      pub room-fails : b ≡ false → false ≡ sound limits s
-      room-fails d = sym (parts ∙ rw (← eu, ← eb, d, and-false))
+    module _ {u k m : ℕ} (eu : u ≡ used s) (ek : k ≡ u) (em : m ≡ room limits s) where
+      entries : k ≡ used s
+      entries = ek ∙ eu
 
-      pub by-body : {r : Bool} → a ≡ true → b ≡ true → r ≡ body-sound s used → r ≡ sound limits s
-      by-body ta tb er = er ∙ sym (parts ∙ rw (← eu, ← eb, tb, ← ea, ta))
+      pub room-fails : m < k → false ≡ sound limits s
+      room-fails h = sym (parts ∙ rw (← entries, lt-leb k (room limits s) (omega arith), and-false))
 
--- ---- at the limits of every store
-module _ {limits : Limits} (e : limits ≡ store-limits) where
-  pub index-holds : limits .entries ≤ capacity
-  index-holds = let d = ap (λ (l : Limits). l .entries) e in omega arith
-
-  pub at-limits : (s : List ℕ) {r : Bool} → r ≡ sound limits s → r ≡ sound store-limits s
-  at-limits s er = er ∙ ap (λ (l : Limits). sound l s) e
+      pub by-body : {r : Bool} → a ≡ true → k ≤ m → r ≡ body-sound s k → r ≡ sound limits s
+      by-body ta h er = er ∙ sym (parts ∙ rw (← entries, le-leb k (room limits s) (omega arith), ← ea, ta))

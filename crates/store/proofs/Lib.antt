@@ -5,6 +5,10 @@ pub mod SoundTree
 pub mod TreePaths
 pub mod StoreWords
 pub mod SoundList
+pub mod EntryFound
+pub mod EntryAdded
+pub mod StoreGrown
+pub mod WordWays
 pub mod OpenAccepts
 pub mod OpenedWords
 pub mod OpenSound

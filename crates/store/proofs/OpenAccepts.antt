@@ -7,20 +7,22 @@ use mathlib.Core.List.{List}
 use native.Mathlib.Omega.{arith}
 use lib.Dec.{eqb, ltb}
 use lib.ListN.{length}
-use Rattle.store.specs.declared.limits.Limits.{Limits}
-use Rattle.store.specs.declared.opening.Opened.{Opened}
-use Rattle.store.specs.declared.opening.Opened.the-variants.{Accepted, TooManyFields, OddList, TooManyQuestions, OutOfLimits, NotSimplified, NotAbove, TooShort}
+use Rattle.terms.specs.Order.{fields-first}
+use Rattle.terms.specs.declared.limits.Limits.{Limits}
+use Rattle.store.specs.declared.answer.Opened.{Opened}
+use Rattle.store.specs.declared.answer.Opened.the-variants.{Accepted, Refused}
+use Rattle.store.specs.declared.answer.OpenFault.the-variants.{TooManyFields, OddList, TooManyQuestions, TooShort}
 use Rattle.store.specs.Layout.{heading-length}
-use Rattle.store.specs.Limits.{terms-within}
-use Rattle.store.specs.Open.{and-then, list-fault, opening}
-use Rattle.store.specs.Sound.{is-accepted}
+use Rattle.terms.specs.Limits.{terms-within}
+use Rattle.store.specs.Open.{list-fault, opening}
+use Rattle.store.specs.Opened.{is-accepted, and-then}
 use Rattle.terms.proofs.Cases.{by-eq, by-lt}
 
 pub record Accepts (limits : Limits) (n : ℕ) (list : List ℕ) (words : ℕ) : Type 0 where
   pub fields : n ≤ limits .terms .field .0
   pub even : 2 * (length list / 2) ≡ length list
   pub few : length list / 2 ≤ limits .questions
-  pub faultless : list-fault (terms-within limits n) list (length list / 2) 0 ≡ Accepted
+  pub faultless : list-fault fields-first (terms-within limits n) list (length list / 2) 0 ≡ Accepted
   pub fits : heading-length + length list ≤ words
 
 no : {o : Opened} → is-accepted o ≡ false → o ≡ Accepted → ⊥
@@ -31,13 +33,7 @@ no {o} r e =
 
 pub both : (f g : Opened) → and-then f g ≡ Accepted → (f ≡ Accepted) × (g ≡ Accepted)
 both Accepted g e = (refl, e)
-both TooManyFields g e = absurd (no refl e)
-both OddList g e = absurd (no refl e)
-both TooManyQuestions g e = absurd (no refl e)
-both OutOfLimits g e = absurd (no refl e)
-both NotSimplified g e = absurd (no refl e)
-both NotAbove g e = absurd (no refl e)
-both TooShort g e = absurd (no refl e)
+both (Refused f) g e = absurd (no refl e)
 
 -- a test that would refuse did not pass
 module _ (x y : ℕ) (a b : Opened) (r : is-accepted a ≡ false) where
@@ -53,11 +49,11 @@ halves m h = omega arith
 pub accepts : (limits : Limits) (n : ℕ) (list : List ℕ) (words : ℕ) → opening limits n list words ≡ Accepted → Accepts limits n list words
 unfolding opening
 accepts limits n list words e =
-    let fields = past-lt _ _ TooManyFields _ refl e in
-    let even = past-eq _ _ OddList _ refl (fields .1) in
-    let few = past-lt _ _ TooManyQuestions _ refl (even .1) in
+    let fields = past-lt _ _ (Refused TooManyFields) _ refl e in
+    let even = past-eq _ _ (Refused OddList) _ refl (fields .1) in
+    let few = past-lt _ _ (Refused TooManyQuestions) _ refl (even .1) in
     let parts = both _ _ (few .1) in
-    let fits = past-lt _ _ TooShort _ refl (parts .1) in
+    let fits = past-lt _ _ (Refused TooShort) _ refl (parts .1) in
     record { fields = fields .0; even = halves (length list) (even .0); few = few .0; faultless = parts .0; fits = fits .0 }
 
 -- an accepted opening has room for what is written, and its number of questions fits a word

@@ -7,17 +7,17 @@ use native.Mathlib.Nat.{add-zero}
 use native.Mathlib.Omega.{arith}
 use borrow.Author.Tests.{le-leb}
 use lib.ListN.{length, drop}
-use Rattle.store.specs.declared.limits.Limits.{Limits}
-use Rattle.store.specs.declared.opening.Opened.the-variants.{Accepted}
+use Rattle.terms.specs.declared.limits.Limits.{Limits}
+use Rattle.store.specs.declared.answer.Opened.the-variants.{Accepted}
 use Rattle.store.specs.Layout.{used, entries-start, heading-length, room}
 use Rattle.store.specs.Open.{opening, opened-words}
-use Rattle.store.specs.Sound.{all-below, all-zero, heading-sound, entries-differ, sound}
+use Rattle.store.specs.Sound.{all-below, all-zero, heading-sound, differ-below, sound}
 use Rattle.store.proofs.OpenAccepts.{Accepts, accepts}
 use Rattle.store.proofs.OpenedWords.{opened-fields, opened-questions, opened-used, opened-length, opened-list, opened-rest}
 
 -- a store whose heading is sound, with no entries and zeros behind the list
 no-entries : (limits : Limits) (s : List ℕ) → heading-sound limits s ≡ true → used s ≡ 0 → all-zero (drop (entries-start s) s) ≡ true → sound limits s ≡ true
-unfolding sound entries-differ all-below
+unfolding sound differ-below all-below
 no-entries limits s h u z = rw (h, u, le-leb 0 (room limits s) (omega arith), add-zero, z)
 
 module _ (limits : Limits) (n : ℕ) (list s : List ℕ) where

@@ -9,12 +9,12 @@ use native.Mathlib.Omega.{arith}
 use native.Mathlib.Decide.{decLt}
 use lib.Dec.{eqb}
 use Rattle.terms.specs.Meaning.{Valuation, truth}
-use Rattle.store.specs.declared.limits.Limits.{Limits}
+use Rattle.terms.specs.declared.limits.Limits.{Limits}
 use Rattle.store.specs.Layout.{entry, leaves, question, question-count, used}
 use Rattle.store.specs.Meaning.{follow, meaning}
 use Rattle.store.specs.Tree.{leaf, node, tree, tree-truth, Ascending, Reduced}
 use Rattle.terms.proofs.Cases.{by-test, by-eq}
-use Rattle.store.proofs.SoundFacts.{Sound}
+use Rattle.store.specs.SoundParts.{Sound}
 use Rattle.store.proofs.Handles.{Falling, by-handle, by-handles, leaf-within, tree-entry, leaf-stays, follow-entry}
 
 pub tree-leaf : (s : List ℕ) (h : ℕ) → h < leaves → tree s h ≡ leaf (eqb h 1)
@@ -34,17 +34,17 @@ module _ {limits : Limits} {s : List ℕ} (snd : Sound limits s) where
   pub falling : Falling s (used s)
   falling = record { yes-below = λ i h. snd .entry-kept i h .yes-below; no-below = λ i h. snd .entry-kept i h .no-below }
 
-  pub tree-node : (i : ℕ) → i < used s → tree s (i + leaves) ≡ node (entry s i .question) (tree s (entry s i .yes-to)) (tree s (entry s i .no-to))
+  pub tree-node : (i : ℕ) → i < used s → tree s (i + leaves) ≡ node (entry s i .question) (tree s (entry s i .yes)) (tree s (entry s i .no))
   tree-node = tree-entry falling
 
   -- the handle after an entry is below it
-  entry-steps : (v : Valuation) (i : ℕ) → i < used s → StepsEnough s v (entry s i .yes-to) → StepsEnough s v (entry s i .no-to) → StepsEnough s v (i + leaves)
+  entry-steps : (v : Valuation) (i : ℕ) → i < used s → StepsEnough s v (entry s i .yes) → StepsEnough s v (entry s i .no) → StepsEnough s v (i + leaves)
   entry-steps v i h y n zero l = absurd (omega arith)
   entry-steps v i h y n (suc steps) l =
       let e = entry s i in
       let answers : ℕ → Bool = λ k. truth v (question s k) in
       ap (λ x. eqb x 1) (follow-entry steps s v i)
-      ∙ by-test (λ t. eqb (follow steps s v (cond t (e .yes-to) (e .no-to))) 1 ≡ cond t (tree-truth answers (tree s (e .yes-to))) (tree-truth answers (tree s (e .no-to)))) (answers (e .question))
+      ∙ by-test (λ t. eqb (follow steps s v (cond t (e .yes) (e .no))) 1 ≡ cond t (tree-truth answers (tree s (e .yes))) (tree-truth answers (tree s (e .no)))) (answers (e .question))
       (λ _. y steps (omega (arith, snd .entry-kept i h .yes-below))) (λ _. n steps (omega (arith, snd .entry-kept i h .no-below)))
       ∙ sym (ap (tree-truth answers) (tree-node i h))
 
@@ -56,14 +56,14 @@ module _ {limits : Limits} {s : List ℕ} (snd : Sound limits s) where
 
   -- An entry means what its yes handle does where its question is true, and what its no handle does where it is not.
   pub meaning-entry : (i : ℕ) → i < used s → (v : Valuation)
-      → meaning s (i + leaves) v ≡ cond (truth v (question s (entry s i .question))) (meaning s (entry s i .yes-to) v) (meaning s (entry s i .no-to) v)
+      → meaning s (i + leaves) v ≡ cond (truth v (question s (entry s i .question))) (meaning s (entry s i .yes) v) (meaning s (entry s i .no) v)
   meaning-entry i h v =
       let e = entry s i in
       let answers : ℕ → Bool = λ k. truth v (question s k) in
       let k = snd .entry-kept i h in
       meaning-is-tree (i + leaves) (omega arith) v
       ∙ ap (tree-truth answers) (tree-node i h)
-      ∙ ap₂ (cond (answers (e .question))) (sym (meaning-is-tree (e .yes-to) (omega (arith, k .yes-below)) v)) (sym (meaning-is-tree (e .no-to) (omega (arith, k .no-below)) v))
+      ∙ ap₂ (cond (answers (e .question))) (sym (meaning-is-tree (e .yes) (omega (arith, k .yes-below)) v)) (sym (meaning-is-tree (e .no) (omega (arith, k .no-below)) v))
 
   ascending-from : (h : ℕ) → h < used s + leaves → (least : ℕ) → (leaves ≤ h → least ≤ entry s (h - leaves) .question) → Ascending least (question-count s) (tree s h)
   ascending-from = by-handles falling (λ h. (least : ℕ) → (leaves ≤ h → least ≤ entry s (h - leaves) .question) → Ascending least (question-count s) (tree s h))
@@ -98,16 +98,16 @@ module _ {limits : Limits} {s : List ℕ} (snd : Sound limits s) where
   abbrev OneHandle : ℕ → Type 0
   OneHandle g = (h : ℕ) → h < used s + leaves → tree s g ≡ tree s h → g ≡ h
 
-  one-entry : (i : ℕ) → i < used s → OneHandle (entry s i .yes-to) → OneHandle (entry s i .no-to) → OneHandle (i + leaves)
+  one-entry : (i : ℕ) → i < used s → OneHandle (entry s i .yes) → OneHandle (entry s i .no) → OneHandle (i + leaves)
   one-entry i k y n = by-handle (used s) (λ h. tree s (i + leaves) ≡ tree s h → i + leaves ≡ h)
       (λ h l e. absurd (leaf-unlike h i l k (sym e)))
       (λ j l e.
       let u = snd .entry-kept j l in
-      let a : node (entry s i .question) (tree s (entry s i .yes-to)) (tree s (entry s i .no-to)) ≡ node (entry s j .question) (tree s (entry s j .yes-to)) (tree s (entry s j .no-to)) = sym (tree-node i k) ∙ e ∙ tree-node j l in
+      let a : node (entry s i .question) (tree s (entry s i .yes)) (tree s (entry s i .no)) ≡ node (entry s j .question) (tree s (entry s j .yes)) (tree s (entry s j .no)) = sym (tree-node i k) ∙ e ∙ tree-node j l in
       let q : entry s i .question ≡ entry s j .question = cc in
-      let p : entry s i .yes-to ≡ entry s j .yes-to = y (entry s j .yes-to) (omega (arith, u .yes-below)) (cc) in
-      let r : entry s i .no-to ≡ entry s j .no-to = n (entry s j .no-to) (omega (arith, u .no-below)) (cc) in
-      ap (λ x. x + leaves) (entry-alike i j k l (λ d. record { question = q d; yes-to = p d; no-to = r d })))
+      let p : entry s i .yes ≡ entry s j .yes = y (entry s j .yes) (omega (arith, u .yes-below)) (cc) in
+      let r : entry s i .no ≡ entry s j .no = n (entry s j .no) (omega (arith, u .no-below)) (cc) in
+      ap (λ x. x + leaves) (entry-alike i j k l (λ d. record { question = q d; yes = p d; no = r d })))
 
   -- Two handles with one tree are the same.
   pub same-tree : (g h : ℕ) → g < used s + leaves → h < used s + leaves → tree s g ≡ tree s h → g ≡ h
@@ -120,4 +120,4 @@ module _ {limits : Limits} {s : List ℕ} (snd : Sound limits s) where
   tree-reduced = by-handles falling (λ h. Reduced (tree s h)) (λ h l. rw (tree-leaf s h l) tt)
       (λ i h y n.
       let k = snd .entry-kept i h in
-      rw (tree-node i h) (λ e. k .differ (same-tree (entry s i .yes-to) (entry s i .no-to) (omega (arith, k .yes-below)) (omega (arith, k .no-below)) e), y, n))
+      rw (tree-node i h) (λ e. k .differ (same-tree (entry s i .yes) (entry s i .no) (omega (arith, k .yes-below)) (omega (arith, k .no-below)) e), y, n))

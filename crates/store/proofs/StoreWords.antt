@@ -12,15 +12,13 @@ use lib.ListN.{length, getD, drop, length-take, length-drop, List·getD-eq-defau
 use lib.Seq.{getD-take, getD-drop, ext-getD}
 use Rattle.terms.specs.Words.{equation, term-of}
 use Rattle.terms.specs.Meaning.{Valuation, truth}
-use Rattle.store.specs.Layout.{heading-length, field-count, question-count, list-words, question, Entry, entries-start, entry, leaves}
+use Rattle.store.specs.declared.entries.Entry.{Entry}
+use Rattle.store.specs.Grown.{Agree}
+use Rattle.store.specs.Layout.{heading-length, field-count, question-count, list-words, question, entries-start, entry, leaves}
 use Rattle.store.specs.Meaning.{follow, meaning}
 use Rattle.store.specs.Tree.{node, tree-within, tree}
 use Rattle.terms.proofs.Cases.{by-test}
 use Rattle.store.proofs.Handles.{Falling, by-handle, leaf-within, node-within, leaf-stays, follow-entry}
-
--- the words of the heading, the list and the first m entries are the same, but for "word 2 the entries used"
-pub record Agree (s s′ : List ℕ) (m : ℕ) : Type 0 where
-  pub word : (k : ℕ) → k < entries-start s + 3 * m → k ≢ 2 → getD s′ k 0 ≡ getD s k 0
 
 -- a word of the list, as a word of the store
 pub list-word : (s : List ℕ) (k : ℕ) → k < 2 * question-count s → getD (list-words s) k 0 ≡ getD s (heading-length + k) 0
@@ -66,9 +64,9 @@ module _ {s s′ : List ℕ} {m : ℕ} (agree : Agree s s′ m) where
   entry-agrees i h =
       let e : entries-start s′ + 3 * i ≡ entries-start s + 3 * i = omega (arith, questions-agree) in
       let q : entry s′ i .question ≡ entry s i .question = entry-word-agrees _ _ e (omega arith) (omega arith) in
-      let y : entry s′ i .yes-to ≡ entry s i .yes-to = entry-word-agrees _ _ (ap (λ k. k + 1) e) (omega arith) (omega arith) in
-      let n : entry s′ i .no-to ≡ entry s i .no-to = entry-word-agrees _ _ (ap (λ k. k + 2) e) (omega arith) (omega arith) in
-      λ d. record { question = q d; yes-to = y d; no-to = n d }
+      let y : entry s′ i .yes ≡ entry s i .yes = entry-word-agrees _ _ (ap (λ k. k + 1) e) (omega arith) (omega arith) in
+      let n : entry s′ i .no ≡ entry s i .no = entry-word-agrees _ _ (ap (λ k. k + 2) e) (omega arith) (omega arith) in
+      λ d. record { question = q d; yes = y d; no = n d }
 
   module _ (falls : Falling s m) where
     tree-within-agrees : (depth h : ℕ) → h < m + leaves → tree-within depth s′ h ≡ tree-within depth s h
@@ -77,9 +75,9 @@ module _ {s s′ : List ℕ} {m : ℕ} (agree : Agree s s′ m) where
     tree-within-agrees (suc depth) h l = by-handle m (λ h. tree-within (suc depth) s′ h ≡ tree-within (suc depth) s h)
         (λ h k. leaf-within (suc depth) s′ h k ∙ sym (leaf-within (suc depth) s h k))
         (λ i k. node-within depth s′ i
-        ∙ ap (λ e. node (e .question) (tree-within depth s′ (e .yes-to)) (tree-within depth s′ (e .no-to))) (entry-agrees i k)
-        ∙ ap₂ (node (entry s i .question)) (tree-within-agrees depth (entry s i .yes-to) (omega (arith, falls .yes-below i k)))
-        (tree-within-agrees depth (entry s i .no-to) (omega (arith, falls .no-below i k)))
+        ∙ ap (λ e. node (e .question) (tree-within depth s′ (e .yes)) (tree-within depth s′ (e .no))) (entry-agrees i k)
+        ∙ ap₂ (node (entry s i .question)) (tree-within-agrees depth (entry s i .yes) (omega (arith, falls .yes-below i k)))
+        (tree-within-agrees depth (entry s i .no) (omega (arith, falls .no-below i k)))
         ∙ sym (node-within depth s i)) h l
 
     pub tree-agrees : (h : ℕ) → h < m + leaves → tree s′ h ≡ tree s h
@@ -92,10 +90,10 @@ module _ {s s′ : List ℕ} {m : ℕ} (agree : Agree s s′ m) where
         (λ h k. leaf-stays (suc steps) s′ v h k ∙ sym (leaf-stays (suc steps) s v h k))
         (λ i k. let e = entry s i in
         follow-entry steps s′ v i
-        ∙ ap (λ (e : Entry). follow steps s′ v (cond (truth v (question s′ (e .question))) (e .yes-to) (e .no-to))) (entry-agrees i k)
-        ∙ ap (λ q. follow steps s′ v (cond (truth v q) (e .yes-to) (e .no-to))) (question-agrees (e .question))
-        ∙ follow-agrees v steps (cond (truth v (question s (e .question))) (e .yes-to) (e .no-to))
-        (by-test (λ t. cond t (e .yes-to) (e .no-to) < m + leaves) (truth v (question s (e .question)))
+        ∙ ap (λ (e : Entry). follow steps s′ v (cond (truth v (question s′ (e .question))) (e .yes) (e .no))) (entry-agrees i k)
+        ∙ ap (λ q. follow steps s′ v (cond (truth v q) (e .yes) (e .no))) (question-agrees (e .question))
+        ∙ follow-agrees v steps (cond (truth v (question s (e .question))) (e .yes) (e .no))
+        (by-test (λ t. cond t (e .yes) (e .no) < m + leaves) (truth v (question s (e .question)))
         (λ _. omega (arith, falls .yes-below i k)) (λ _. omega (arith, falls .no-below i k)))
         ∙ sym (follow-entry steps s v i)) h l
 

@@ -1,15 +1,17 @@
 -- What the tests of a sound store say: two tests pass together if each passes, a test of every number below k passes if it passes for
 -- each of them, and the words of a list are all zero if every word that is read from it is.
-use Prim.Native.Nat.{ℕ, zero, suc, _<_}
-use mathlib.Core.Path.{_≡_, refl, _∙_, ap}
+use Prim.Native.Nat.{ℕ, zero, suc, _+_, _<_}
+use mathlib.Core.Path.{_≡_, refl, sym, _∙_, ap}
 use mathlib.Core.Bool.{Bool, true, false, false≢true, _&&_}
 use mathlib.Core.List.{List, [], _∷_}
+use native.Mathlib.Numerals.{add-one}
 use native.Mathlib.Omega.{arith}
 use native.Mathlib.Decide.{ℕ-discrete}
 use borrow.Author.Tests.{eqb-true, eq-eqb}
 use lib.Dec.{eqb}
 use lib.ListN.{getD}
 use Rattle.store.specs.Sound.{all-below, all-zero}
+use Rattle.terms.proofs.Cases.{by-test}
 
 pub first-passes : (a b : Bool) → (a && b) ≡ true → a ≡ true
 first-passes true b e = refl
@@ -40,6 +42,17 @@ module _ (p : ℕ → Bool) where
   unfolding all-below
   all-below-from zero f = refl
   all-below-from (suc k) f = both-pass (all-below-from k (λ i h. f i (omega arith))) (f k (omega arith))
+
+  pub all-below-none : all-below 0 p ≡ true
+  unfolding all-below
+  all-below-none = refl
+
+  pub all-below-more : {i : ℕ} → all-below i p ≡ true → p i ≡ true → all-below (i + 1) p ≡ true
+  unfolding all-below
+  all-below-more {i} e t = rw (add-one, e, t)
+
+  pub all-below-fails : (k j : ℕ) → j < k → p j ≡ false → all-below k p ≡ false
+  all-below-fails k j h e = by-test (λ t. t ≡ false) (all-below k p) (λ t. absurd (false≢true (sym e ∙ all-below-says k t j h))) (λ _. refl)
 
 pub all-zero-says : (ws : List ℕ) → all-zero ws ≡ true → (k : ℕ) → getD ws k 0 ≡ 0
 unfolding all-zero

@@ -4,22 +4,12 @@ use Prim.Native.Nat.{ℕ, suc, _+_, _≤_, _<_, max}
 use mathlib.Core.Bool.{Bool, cond}
 use mathlib.Core.List.{List}
 use native.Mathlib.Omega.{arith}
-use Rattle.store.specs.declared.limits.Limits.{Limits}
+use Rattle.terms.specs.declared.limits.Limits.{Limits}
 use Rattle.store.specs.Layout.{leaves, question-count, used}
-use Rattle.store.specs.Tree.{Tree, leaf, node, tree, Ascending}
+use Rattle.store.specs.Tree.{Tree, leaf, node, tree, Ascending, depth, asked}
 use Rattle.terms.proofs.Cases.{by-test}
-use Rattle.store.proofs.SoundFacts.{Sound}
+use Rattle.store.specs.SoundParts.{Sound}
 use Rattle.store.proofs.SoundTree.{tree-ascending}
-
--- the questions on the longest path
-abbrev pub depth : Tree → ℕ
-depth (leaf b) = 0
-depth (node k y n) = suc (max (depth y) (depth n))
-
--- the questions on the path that the answers take
-abbrev pub asked : (ℕ → Bool) → Tree → ℕ
-asked answers (leaf b) = 0
-asked answers (node k y n) = suc (cond (answers k) (asked answers y) (asked answers n))
 
 pub asked-deep : (answers : ℕ → Bool) (t : Tree) → asked answers t ≤ depth t
 asked-deep answers (leaf b) = omega arith

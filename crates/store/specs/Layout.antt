@@ -1,10 +1,13 @@
 -- The words of a store (document 01, "The store").
-use Prim.Native.Nat.{ℕ, _+_, _-_, _*_, _/_, _≤_, min}
-use mathlib.Core.List.{List}
-use lib.ListN.{length, getD, take, drop}
+use Prim.Native.Nat.{ℕ, _+_, _-_, _*_, _/_, min}
+use mathlib.Core.Bool.{Bool}
+use mathlib.Core.List.{List, _++_}
+use lib.Dec.{ltb}
+use lib.ListN.{length, getD, set, take, drop, replicate}
 use Rattle.terms.specs.declared.term.Equation.{Equation}
 use Rattle.terms.specs.Words.{equation, term-of}
-use Rattle.store.specs.declared.limits.Limits.{Limits}
+use Rattle.terms.specs.declared.limits.Limits.{Limits}
+use Rattle.store.specs.declared.entries.Entry.{Entry}
 
 -- "Word 0 is n, word 1 the number of questions q (0 to 20), word 2 the entries used."
 abbrev pub heading-length : ℕ
@@ -16,8 +19,14 @@ field-count s = getD s 0 0
 abbrev pub question-count : List ℕ → ℕ
 question-count s = getD s 1 0
 
+abbrev pub used-place : ℕ
+used-place = 2
+
 abbrev pub used : List ℕ → ℕ
-used s = getD s 2 0
+used s = getD s used-place 0
+
+abbrev pub with-used : List ℕ → ℕ → List ℕ
+with-used s u = set s used-place u
 
 -- "Then q questions, two term words each, left first.": the k-th question of a list of words, counted from 0
 abbrev pub question-in : List ℕ → ℕ → Equation
@@ -26,15 +35,17 @@ question-in words k = equation (term-of (getD words (2 * k) 0)) (term-of (getD w
 abbrev pub list-words : List ℕ → List ℕ
 list-words s = take (2 * question-count s) (drop heading-length s)
 
--- the question with the number k, counted from 1 as entries do
+-- the word at which the question with the number k begins, counted from 1 as entries do
+abbrev pub question-start : ℕ → ℕ
+question-start k = heading-length + 2 * (k - 1)
+
+-- the question with the number k
 abbrev pub question : List ℕ → ℕ → Equation
 question s k = question-in (list-words s) (k - 1)
 
 -- "Then entries of three words: question number (1 to q), yes handle, no handle."
-pub record Entry : Type 0 where
-  pub question : ℕ
-  pub yes-to : ℕ
-  pub no-to : ℕ
+abbrev pub entry-of : ℕ → ℕ → ℕ → Entry
+entry-of q y n = record { question = q; yes = y; no = n }
 
 abbrev pub entries-start : List ℕ → ℕ
 entries-start s = heading-length + 2 * question-count s
@@ -42,16 +53,20 @@ entries-start s = heading-length + 2 * question-count s
 abbrev pub entry : List ℕ → ℕ → Entry
 entry s i =
     let at = entries-start s + 3 * i in
-    record { question = getD s at 0; yes-to = getD s (at + 1) 0; no-to = getD s (at + 2) 0 }
-
--- the i-th entry lies within the words
-abbrev pub HasEntry : List ℕ → ℕ → Type 0
-HasEntry s i = entries-start s + 3 * i + 3 ≤ length s
+    entry-of (getD s at 0) (getD s (at + 1) 0) (getD s (at + 2) 0)
 
 -- "Handle 0 is the leaf never, 1 the leaf always; the i-th entry, counted from 0, is handle i + 2."
 abbrev pub leaves : ℕ
 leaves = 2
 
+-- a handle of the store's: not "at or above used + 2"
+abbrev pub is-handle : List ℕ → ℕ → Bool
+is-handle s handle = ltb handle (used s + leaves)
+
 -- "Room is (length - 3 - 2q) / 3 rounded down, at most 4,096 entries."
 abbrev pub room : Limits → List ℕ → ℕ
 room limits s = min ((length s - entries-start s) / 3) (limits .entries)
+
+-- zeros in all words from a place on
+abbrev pub cleared-from : List ℕ → ℕ → List ℕ
+cleared-from s start = take start s ++ replicate (length s - start) 0

@@ -1,7 +1,11 @@
-pub mod Limits
 pub mod Layout
 pub mod Outcome
+pub mod Opened
 pub mod Open
 pub mod Sound
+pub mod SoundParts
+pub mod Entries
+pub mod Grown
 pub mod Meaning
 pub mod Tree
+pub mod Needs

@@ -10,7 +10,7 @@ use Rattle.store.specs.Layout.{question, entry, leaves}
 unfoldable pub next : List ℕ → Valuation → ℕ → ℕ
 next s v handle =
     let e = entry s (handle - leaves) in
-    cond (ltb handle leaves) handle (cond (truth v (question s (e .question))) (e .yes-to) (e .no-to))
+    cond (ltb handle leaves) handle (cond (truth v (question s (e .question))) (e .yes) (e .no))
 
 -- so many steps on
 unfoldable pub follow : ℕ → List ℕ → Valuation → ℕ → ℕ

@@ -6,12 +6,13 @@ use mathlib.Core.Bool.{Bool, true, false, cond, not, _&&_}
 use mathlib.Core.List.{List, [], _∷_}
 use lib.Dec.{eqb, leb, ltb}
 use lib.ListN.{length, drop}
-use Rattle.store.specs.declared.limits.Limits.{Limits}
-use Rattle.store.specs.declared.opening.Opened.{Opened}
-use Rattle.store.specs.declared.opening.Opened.the-variants.{Accepted, TooManyFields, OddList, TooManyQuestions, OutOfLimits, NotSimplified, NotAbove, TooShort}
-use Rattle.store.specs.Layout.{field-count, question-count, used, list-words, Entry, entries-start, entry, leaves, room}
-use Rattle.store.specs.Limits.{terms-within}
+use Rattle.terms.specs.Order.{fields-first}
+use Rattle.terms.specs.declared.limits.Limits.{Limits}
+use Rattle.store.specs.declared.entries.Entry.{Entry}
+use Rattle.store.specs.Layout.{field-count, question-count, used, list-words, entries-start, entry, leaves, room}
+use Rattle.terms.specs.Limits.{terms-within}
 use Rattle.store.specs.Open.{list-fault}
+use Rattle.store.specs.Opened.{is-accepted}
 
 -- the test passes for each number below
 unfoldable pub all-below : ℕ → (ℕ → Bool) → Bool
@@ -22,23 +23,13 @@ unfoldable pub all-zero : List ℕ → Bool
 all-zero [] = true
 all-zero (w ∷ ws) = eqb w 0 && all-zero ws
 
-abbrev pub is-accepted : Opened → Bool
-is-accepted Accepted = true
-is-accepted TooManyFields = false
-is-accepted OddList = false
-is-accepted TooManyQuestions = false
-is-accepted OutOfLimits = false
-is-accepted NotSimplified = false
-is-accepted NotAbove = false
-is-accepted TooShort = false
-
 -- "n, q and the list keep the rules of groups L1 to L6, the length is at least 3 + 2q"
 unfoldable pub heading-sound : Limits → List ℕ → Bool
 heading-sound limits s =
     leb (field-count s) (limits .terms .field .0)
     && leb (question-count s) (limits .questions)
     && leb (entries-start s) (length s)
-    && is-accepted (list-fault (terms-within limits (field-count s)) (list-words s) (question-count s) 0)
+    && is-accepted (list-fault fields-first (terms-within limits (field-count s)) (list-words s) (question-count s) 0)
 
 -- "an entry that another entry's handle names has a larger question number than that other entry"; a leaf is no entry
 abbrev pub asks-before : List ℕ → Entry → ℕ → Bool
@@ -49,21 +40,21 @@ unfoldable pub entry-sound : List ℕ → ℕ → Bool
 entry-sound s i =
     let e = entry s i in
     leb 1 (e .question) && leb (e .question) (question-count s)
-    && ltb (e .yes-to) (i + leaves) && ltb (e .no-to) (i + leaves)
-    && not (eqb (e .yes-to) (e .no-to))
-    && asks-before s e (e .yes-to) && asks-before s e (e .no-to)
+    && ltb (e .yes) (i + leaves) && ltb (e .no) (i + leaves)
+    && not (eqb (e .yes) (e .no))
+    && asks-before s e (e .yes) && asks-before s e (e .no)
 
 abbrev pub same-entry : Entry → Entry → Bool
-same-entry d e = eqb (d .question) (e .question) && eqb (d .yes-to) (e .yes-to) && eqb (d .no-to) (e .no-to)
+same-entry d e = eqb (d .question) (e .question) && eqb (d .yes) (e .yes) && eqb (d .no) (e .no)
 
--- "no two entries are equal"
-unfoldable pub entries-differ : List ℕ → Bool
-entries-differ s = all-below (used s) (λ i. all-below i (λ j. not (same-entry (entry s j) (entry s i))))
+-- "no two entries are equal": of the first k
+unfoldable pub differ-below : List ℕ → ℕ → Bool
+differ-below s k = all-below k (λ i. all-below i (λ j. not (same-entry (entry s j) (entry s i))))
 
 unfoldable pub sound : Limits → List ℕ → Bool
 sound limits s =
     heading-sound limits s
     && leb (used s) (room limits s)
     && all-below (used s) (entry-sound s)
-    && entries-differ s
+    && differ-below s (used s)
     && all-zero (drop (entries-start s + 3 * used s) s)

@@ -1,5 +1,5 @@
 -- The diagram that stands below a handle, as a tree.
-use Prim.Native.Nat.{ℕ, zero, suc, _-_, _≤_}
+use Prim.Native.Nat.{ℕ, zero, suc, _-_, _≤_, max}
 use mathlib.Core.Logic.{_≢_}
 use mathlib.Core.Bool.{Bool, cond}
 use mathlib.Core.List.{List}
@@ -16,7 +16,7 @@ unfoldable pub tree-within : ℕ → List ℕ → ℕ → Tree
 tree-within zero s handle = leaf (eqb handle 1)
 tree-within (suc depth) s handle =
     let e = entry s (handle - leaves) in
-    cond (ltb handle leaves) (leaf (eqb handle 1)) (node (e .question) (tree-within depth s (e .yes-to)) (tree-within depth s (e .no-to)))
+    cond (ltb handle leaves) (leaf (eqb handle 1)) (node (e .question) (tree-within depth s (e .yes)) (tree-within depth s (e .no)))
 
 abbrev pub tree : List ℕ → ℕ → Tree
 tree s handle = tree-within handle s handle
@@ -35,3 +35,13 @@ Ascending least most (node k y n) = (least ≤ k) × (k ≤ most) × Ascending (
 abbrev pub Reduced : Tree → Type 0
 Reduced (leaf b) = Unit {0}
 Reduced (node k y n) = (y ≢ n) × Reduced y × Reduced n
+
+-- the questions on the longest path
+abbrev pub depth : Tree → ℕ
+depth (leaf b) = 0
+depth (node k y n) = suc (max (depth y) (depth n))
+
+-- the questions on the path that the answers take
+abbrev pub asked : (ℕ → Bool) → Tree → ℕ
+asked answers (leaf b) = 0
+asked answers (node k y n) = suc (cond (answers k) (asked answers y) (asked answers n))

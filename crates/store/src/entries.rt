@@ -1,59 +1,63 @@
-// The words of a store's entries.
+// The entries of a store.
 ghost use mathlib.Core.Path.{_≡_};
-ghost use Prim.Native.Nat.{_+_, _≤_};
-ghost use lib.Dec.{ltb};
-ghost use lib.ListN.{length};
+ghost use Rattle.store.specs.Entries as spec;
 ghost use Rattle.store.specs.Layout as layout;
+ghost use Rattle.store.specs.Needs.{HasEntry, EntryFrom, CanAppend};
+ghost use Rattle.store.specs.Sound as sound;
+use crate::words::entries_start;
+use crate::words::set_used;
+use crate::words::used;
+use crate::words::wide;
 
-// The words before the list: n, the number of questions, and the entries used.
-const HEADING: usize = 3;
-
-// The handles of the leaves come before those of the entries.
-const LEAVES: usize = 2;
-
-// A word as a number of words, of entries or of handles.
-pub fn wide(word: u32) -> usize
-    ensures { λ r. ⌜ r ≡ word ⌝ }
-{
-    word as usize
+// A question's number, and the handles of its yes part and its no part.
+pub struct Entry {
+    pub question: u32,
+    pub yes: u32,
+    pub no: u32,
 }
 
-// Where the entries begin.
-pub fn entries_start(s: &[u32]) -> usize
-    requires { ⌜ layout.heading-length ≤ length (now s) ⌝ }
-    ensures { λ r. ⌜ r ≡ layout.entries-start (now (s .entry)) ⌝ }
+// The i-th entry, where the entries begin at the word `start`: a loop over entries works the start out once.
+pub fn entry_from(s: &[u32], start: usize, i: usize) -> Entry
+    requires { ⌜ EntryFrom (now s) start i ⌝ }
+    ensures { λ r. ⌜ r ≡ layout.entry (now (s .entry)) i ⌝ }
 {
-    HEADING + 2 * wide(s[1])
+    let at = start + 3 * i;
+    Entry {
+        question: s[at],
+        yes: s[at + 1],
+        no: s[at + 2],
+    }
 }
 
-// The number of the i-th entry's question.
-pub fn question_of(s: &[u32], i: usize) -> usize
-    requires { ⌜ layout.HasEntry (now s) i ⌝ }
-    ensures { λ r. ⌜ r ≡ layout.entry (now (s .entry)) i .question ⌝ }
+// The i-th entry.
+pub fn entry_of(s: &[u32], i: usize) -> Entry
+    requires { ⌜ HasEntry (now s) i ⌝ }
+    ensures { λ r. ⌜ r ≡ layout.entry (now (s .entry)) i ⌝ }
 {
-    wide(s[entries_start(s) + 3 * i])
+    entry_from(s, entries_start(s), i)
 }
 
-// The i-th entry's yes handle.
-pub fn yes_of(s: &[u32], i: usize) -> usize
-    requires { ⌜ layout.HasEntry (now s) i ⌝ }
-    ensures { λ r. ⌜ r ≡ layout.entry (now (s .entry)) i .yes-to ⌝ }
+// Whether two entries are equal.
+pub fn same_entry(d: Entry, e: Entry) -> bool
+    ensures { λ r. ⌜ r ≡ sound.same-entry d e ⌝ }
 {
-    wide(s[entries_start(s) + 3 * i + 1])
+    if d.question == e.question {
+        if d.yes == e.yes {
+            return d.no == e.no;
+        }
+    }
+    false
 }
 
-// The i-th entry's no handle.
-pub fn no_of(s: &[u32], i: usize) -> usize
-    requires { ⌜ layout.HasEntry (now s) i ⌝ }
-    ensures { λ r. ⌜ r ≡ layout.entry (now (s .entry)) i .no-to ⌝ }
+// Writes an entry after the last.
+pub fn append(store: &mut [u32], e: Entry)
+    requires { ⌜ CanAppend (now store) ⌝ }
+    ensures { λ _. ⌜ now (store .exit) ≡ spec.with-entry (now (store .entry)) e ⌝ }
 {
-    wide(s[entries_start(s) + 3 * i + 2])
-}
-
-// Whether a handle is one of the store's.
-pub fn has_handle(s: &[u32], handle: u32) -> bool
-    requires { ⌜ layout.heading-length ≤ length (now s) ⌝ }
-    ensures { λ r. ⌜ r ≡ ltb handle (layout.used (now (s .entry)) + layout.leaves) ⌝ }
-{
-    wide(handle) < wide(s[2]) + LEAVES
+    let entries = used(store);
+    let at = entries_start(store) + 3 * wide(entries);
+    store[at] = e.question;
+    store[at + 1] = e.yes;
+    store[at + 2] = e.no;
+    set_used(store, entries + 1);
 }

@@ -1,36 +1,26 @@
 // Opening a store.
 ghost use mathlib.Core.Path.{_≡_};
 ghost use mathlib.Core.List.{_∷_, _++_};
-ghost use Prim.Native.Nat.{_+_, _-_, _*_, _/_, _<_, _≤_, _^_};
-ghost use lib.ListN.{length, take, drop, replicate};
+ghost use Prim.Native.Nat.{_+_, _*_, _/_, _<_, _≤_, _^_};
+ghost use lib.ListN.{length, take, drop};
+ghost use Rattle.terms.specs.Order.{fields-first};
 ghost use Rattle.store.specs.Layout.{heading-length, question-in};
-ghost use Rattle.store.specs.Limits as bounds;
+ghost use Rattle.terms.specs.Limits as bounds;
 ghost use Rattle.store.specs.Open as spec;
 ghost use Rattle.store.specs.Outcome.{outcome};
-use crate::limits::Limits;
-use crate::limits::limits_of_store;
-use crate::limits::terms_within;
+use crate::answer::OpenFault;
+use crate::answer::Opened;
+use crate::words::HEADING;
+use crate::words::clear_from;
 use terms::Equation;
+use terms::Limits;
 use terms::TermLimits;
 use terms::allows;
 use terms::is_simplified;
+use terms::limits_of_store;
 use terms::precedes;
 use terms::term_of;
-
-// What opening answers: accepted, or the first rule that the list or the store breaks.
-pub enum Opened {
-    Accepted,
-    TooManyFields,
-    OddList,
-    TooManyQuestions,
-    OutOfLimits,
-    NotSimplified,
-    NotAbove,
-    TooShort,
-}
-
-// The number of words before the questions.
-const HEADING_LENGTH: usize = 3;
+use terms::terms_within;
 
 // The k-th question of a list of term words, counted from 0.
 fn question_in(list: &[u32], k: usize) -> Equation
@@ -46,7 +36,7 @@ fn question_in(list: &[u32], k: usize) -> Equation
 // Whether the k-th question stands above the one before it, which the first has not.
 fn above_last(list: &[u32], k: usize) -> bool
     requires { ⌜ 2 * k + 2 ≤ length (now list) ⌝ }
-    ensures { λ r. ⌜ r ≡ spec.above-last (now (list .entry)) k ⌝ }
+    ensures { λ r. ⌜ r ≡ spec.above-last fields-first (now (list .entry)) k ⌝ }
 {
     if k == 0 {
         return true;
@@ -57,7 +47,7 @@ fn above_last(list: &[u32], k: usize) -> bool
 // The rule that the k-th question breaks.
 fn question_fault(limits: TermLimits, list: &[u32], k: usize) -> Opened
     requires { ⌜ 2 * k + 2 ≤ length (now list) ⌝ }
-    ensures { λ r. ⌜ r ≡ spec.question-fault limits (now (list .entry)) k ⌝ }
+    ensures { λ r. ⌜ r ≡ spec.question-fault fields-first limits (now (list .entry)) k ⌝ }
 {
     let q = question_in(list, k);
     if allows(limits, q.left) {
@@ -66,17 +56,17 @@ fn question_fault(limits: TermLimits, list: &[u32], k: usize) -> Opened
                 if above_last(list, k) {
                     return Opened::Accepted;
                 }
-                return Opened::NotAbove;
+                return Opened::Refused(OpenFault::NotAbove);
             }
-            return Opened::NotSimplified;
+            return Opened::Refused(OpenFault::NotSimplified);
         }
     }
-    Opened::OutOfLimits
+    Opened::Refused(OpenFault::OutOfLimits)
 }
 
 // The first rule that a list of term words breaks, question by question.
 pub fn list_fault(limits: TermLimits, list: &[u32]) -> Opened
-    ensures { λ r. ⌜ r ≡ spec.list-fault limits (now (list .entry)) (length (now (list .entry)) / 2) 0 ⌝ }
+    ensures { λ r. ⌜ r ≡ spec.list-fault fields-first limits (now (list .entry)) (length (now (list .entry)) / 2) 0 ⌝ }
 {
     let mut k: usize = 0;
     while k < list.len() / 2 {
@@ -94,20 +84,20 @@ fn first_fault(limits: Limits, n: u32, list: &[u32], words: usize) -> Opened
     ensures { λ r. ⌜ r ≡ spec.opening limits n (now (list .entry)) words ⌝ }
 {
     if limits.terms.field.0 < n {
-        return Opened::TooManyFields;
+        return Opened::Refused(OpenFault::TooManyFields);
     }
     if list.len() % 2 == 1 {
-        return Opened::OddList;
+        return Opened::Refused(OpenFault::OddList);
     }
     if (limits.questions as usize) < list.len() / 2 {
-        return Opened::TooManyQuestions;
+        return Opened::Refused(OpenFault::TooManyQuestions);
     }
     let fault = list_fault(terms_within(limits, n), list);
     let Opened::Accepted = fault else {
         return fault;
     };
-    if words < HEADING_LENGTH + list.len() {
-        return Opened::TooShort;
+    if words < HEADING + list.len() {
+        return Opened::Refused(OpenFault::TooShort);
     }
     Opened::Accepted
 }
@@ -130,19 +120,7 @@ fn write_list(list: &[u32], store: &mut [u32])
 {
     let mut i: usize = 0;
     while i < list.len() {
-        store[HEADING_LENGTH + i] = list[i];
-        i += 1;
-    }
-}
-
-// Writes zeros from a word on.
-pub fn clear_from(start: usize, store: &mut [u32])
-    requires { ⌜ start ≤ length (now store) ⌝ }
-    ensures { λ _. ⌜ now (store .exit) ≡ take start (now (store .entry)) ++ replicate (length (now (store .entry)) - start) 0 ⌝ }
-{
-    let mut i = start;
-    while i < store.len() {
-        store[i] = 0;
+        store[HEADING + i] = list[i];
         i += 1;
     }
 }
@@ -155,7 +133,7 @@ fn write_opened(n: u32, list: &[u32], store: &mut [u32])
 {
     write_heading(n, (list.len() / 2) as u32, store);
     write_list(list, store);
-    clear_from(HEADING_LENGTH + list.len(), store);
+    clear_from(store, HEADING + list.len());
 }
 
 // Opens a store within limits.
@@ -175,20 +153,4 @@ pub fn open(n: u32, list: &[u32], store: &mut [u32]) -> Opened
     ensures { λ r. ⌜ outcome r (now (store .exit)) ≡ spec.open-store bounds.store-limits n (now (list .entry)) (now (store .entry)) ⌝ }
 {
     open_within(limits_of_store(), n, list, store)
-}
-
-// The number of an answer.
-pub fn open_number(o: Opened) -> u32
-    ensures { λ r. ⌜ r ≡ spec.open-number o ⌝ }
-{
-    match o {
-        Opened::Accepted => 0,
-        Opened::TooManyFields => 11,
-        Opened::OddList => 12,
-        Opened::TooManyQuestions => 13,
-        Opened::OutOfLimits => 14,
-        Opened::NotSimplified => 15,
-        Opened::NotAbove => 16,
-        Opened::TooShort => 21,
-    }
 }

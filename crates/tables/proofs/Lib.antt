@@ -1,10 +1,8 @@
-pub mod Marks
-pub mod MarkedRows
+pub mod DecodedTruth
 pub mod RowTruths
-pub mod WrittenRows
-pub mod WrittenMeans
-pub mod MarkWays
-pub mod PutWords
-pub mod EntryWays
-pub mod RowWays
-pub mod WriteWays
+pub mod FormedRows
+pub mod ListedTruth
+pub mod TableTaken
+pub mod DecodeWays
+pub mod ListWays
+pub mod FaultWays

@@ -1,15 +1,20 @@
--- The truth of each row of a table, by its kind: rows are worked out in turn, so a row that refers to lower rows has their truths.
-use Prim.Native.Nat.{ℕ, zero, suc, _<_}
-use mathlib.Core.Path.{_≡_, refl, _∙_}
-use mathlib.Core.Bool.{Bool, true, false, cond}
+-- The truth of each row of a table: rows are worked out in turn, so a row that refers to lower rows has their truths.
+use Prim.Native.Nat.{ℕ, zero, suc, _-_, _<_}
+use mathlib.Core.Path.{_≡_, refl, _∙_, ap}
+use mathlib.Core.Bool.{Bool, false, cond}
 use mathlib.Core.List.{List, [], _∷_}
 use native.Mathlib.Omega.{arith}
 use native.Mathlib.Decide.{ℕ-discrete}
 use lib.ListN.{length, getD, length-append, List·getD-append}
 use lib.Seq.{getD-at}
-use Rattle.terms.specs.Meaning.{Valuation, truth}
-use Rattle.terms.specs.Words.{equation, term-of}
-use Rattle.tables.specs.Rows.{row, row-truth, row-truths}
+use Rattle.tables.specs.declared.decoding.Part.{Part}
+use Rattle.tables.specs.declared.decoding.Part.the-variants as part
+use Rattle.tables.specs.declared.decoding.Shape.{Shape}
+use Rattle.tables.specs.declared.decoding.Shape.the-variants.{Leaf, Equation, Choice}
+use Rattle.tables.specs.Decoding.{decode, part-truth, shape-truth, LowerPart, Lower}
+use Rattle.tables.specs.Rows.{row, row-count, row-truth, row-truths, rule-meaning}
+use Rattle.terms.specs.Meaning.{Valuation}
+use Rattle.tables.proofs.DecodedTruth.{decode-truth}
 
 module _ (v : Valuation) (table : List ℕ) where
   truths-length : (k : ℕ) → length (row-truths v table k) ≡ k
@@ -39,20 +44,21 @@ module _ (v : Valuation) (table : List ℕ) where
   unfolding row-truths
   by-row i = getD-at (row-truths v table i) _ [] false i (truths-length i)
 
-  module _ (i : ℕ) where
-    pub never-truth : row table i .kind ≡ 0 → truth-at i ≡ false
-    unfolding row-truth
-    never-truth e = by-row i ∙ rw e refl
+  part-stays : (i : ℕ) (p : Part) → LowerPart i p → part-truth (λ j. getD (row-truths v table i) j false) p ≡ part-truth truth-at p
+  part-stays i (part.Leaf b) l = refl
+  part-stays i (part.Row j) l = truth-stays j i l
 
-    pub always-truth : row table i .kind ≡ 1 → truth-at i ≡ true
-    unfolding row-truth
-    always-truth e = by-row i ∙ rw e refl
+  -- a row whose references go to lower rows has the truth of what it stands for
+  pub shape-at : (i : ℕ) (sh : Shape) → decode (row table i) ≡ sh → Lower i sh → truth-at i ≡ shape-truth v truth-at sh
+  shape-at i sh e l =
+      by-row i ∙ decode-truth v (λ j. getD (row-truths v table i) j false) (row table i)
+      ∙ ap (shape-truth v (λ j. getD (row-truths v table i) j false)) e ∙ lowered sh l
+    where
+      lowered : (sh : Shape) → Lower i sh → shape-truth v (λ j. getD (row-truths v table i) j false) sh ≡ shape-truth v truth-at sh
+      lowered (Leaf b) l = refl
+      lowered (Equation q) l = refl
+      lowered (Choice a b c) l = λ k. cond (part-stays i a (l .0) k) (part-stays i b (l .1) k) (part-stays i c (l .2) k)
 
-    pub equation-truth : row table i .kind ≡ 2 → truth-at i ≡ truth v (equation (term-of (row table i .a)) (term-of (row table i .b)))
-    unfolding row-truth
-    equation-truth e = by-row i ∙ rw e refl
-
-    pub choice-truth : {a b c : ℕ} → row table i .kind ≡ 5 → row table i .a ≡ a → row table i .b ≡ b → row table i .c ≡ c → a < i → b < i → c < i
-        → truth-at i ≡ cond (truth-at a) (truth-at b) (truth-at c)
-    unfolding row-truth
-    choice-truth {a} {b} {c} e ea eb ec la lb lc = by-row i ∙ rw (e, ea, eb, ec, truth-stays a i la, truth-stays b i lb, truth-stays c i lc) refl
+  -- "The last row is the rule."
+  pub rule-last : (k : ℕ) → row-count table ≡ suc k → rule-meaning table v ≡ truth-at k
+  rule-last k e = let d : suc k - 1 ≡ k = omega arith in rw (e, d)

@@ -1,3 +1,6 @@
 pub mod Rows
-pub mod WriteBack
-pub mod Arrays
+pub mod Decoding
+pub mod TableFault
+pub mod Listed
+pub mod Faults
+pub mod Needs

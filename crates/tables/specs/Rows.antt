@@ -4,6 +4,7 @@ use mathlib.Core.Bool.{Bool, true, false, cond, not, _&&_}
 use mathlib.Core.List.{List, [], _∷_, _++_}
 use lib.Dec.{eqb}
 use lib.ListN.{length, getD}
+use Rattle.tables.specs.declared.row.Row.{Row}
 use Rattle.terms.specs.Meaning.{Valuation, truth}
 use Rattle.terms.specs.Words.{equation, term-of}
 
@@ -14,11 +15,9 @@ row-length = 4
 abbrev pub row-count : List ℕ → ℕ
 row-count table = length table / row-length
 
-pub record Row : Type 0 where
-  pub kind : ℕ
-  pub a : ℕ
-  pub b : ℕ
-  pub c : ℕ
+-- "33, more than 256 rows"; "53, write-back above 256 rows"
+abbrev pub most-rows : ℕ
+most-rows = 256
 
 abbrev pub row : List ℕ → ℕ → Row
 row table i =

@@ -1,38 +1,33 @@
-// The answer of writing back, and document 01's numbers for it.
+// What is wrong with a rule table, and document 01's numbers for it.
 ghost use mathlib.Core.Path.{_≡_};
-ghost use Rattle.tables.specs.WriteBack as spec;
+ghost use Rattle.tables.specs.TableFault as spec;
 
-// What writing back answers: the count of rows, or why nothing was written.
-pub enum Written {
-    Rows(u32),
-    NotSound,
-    NoHandle,
+// What a test of a table answers: that nothing is wrong, or the first fault.
+pub enum Checked {
+    Fine,
+    Refused(TableFault),
+}
+
+// A rule that a table breaks.
+pub enum TableFault {
+    NoWords,
+    NotRows,
     TooManyRows,
-    TooShort,
+    BadRow,
+    OutOfLimits,
+    NotListed,
 }
 
-// The number of an answer.
-pub fn written_number(w: Written) -> u32
-    ensures { λ n. ⌜ n ≡ spec.written-number w ⌝ }
+// The number of a fault.
+pub fn table_fault_number(f: TableFault) -> u32
+    ensures { λ r. ⌜ r ≡ spec.table-fault-number f ⌝ }
 {
-    match w {
-        Written::Rows(_) => 0,
-        Written::NotSound => 22,
-        Written::NoHandle => 41,
-        Written::TooManyRows => 53,
-        Written::TooShort => 23,
-    }
-}
-
-// The result of an answer.
-pub fn written_result(w: Written) -> u32
-    ensures { λ n. ⌜ n ≡ spec.written-result w ⌝ }
-{
-    match w {
-        Written::Rows(n) => n,
-        Written::NotSound => 0,
-        Written::NoHandle => 0,
-        Written::TooManyRows => 0,
-        Written::TooShort => 0,
+    match f {
+        TableFault::NoWords => 31,
+        TableFault::NotRows => 32,
+        TableFault::TooManyRows => 33,
+        TableFault::BadRow => 34,
+        TableFault::OutOfLimits => 35,
+        TableFault::NotListed => 36,
     }
 }

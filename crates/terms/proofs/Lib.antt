@@ -1,4 +1,5 @@
 pub mod Cases
+pub mod LimitsFit
 pub mod Gap
 pub mod SimplifyCases
 pub mod SimplifyTruth

@@ -13,7 +13,7 @@ use lib.Dec.{eqb}
 use Rattle.terms.specs.declared.term.Field.{Field}
 use Rattle.terms.specs.declared.term.Equation.{Equation}
 use Rattle.terms.specs.Meaning.{Valuation, count, value, truth}
-use Rattle.terms.specs.Form.{Simplified}
+use Rattle.terms.specs.Form.{SimplifiedForm}
 use Rattle.terms.specs.Words.{field}
 use Rattle.terms.proofs.Cases.{by-eq}
 use Rattle.terms.proofs.Numbers.{same-equation}
@@ -35,7 +35,7 @@ a-unit : (a m : ℕ) → a ≢ 0 → m ≤ a * m
 a-unit zero m n = absurd (n refl)
 a-unit (suc a) m n = rw suc-mul (omega arith)
 
-module _ (p q : Equation) (sp : Simplified p) (sq : Simplified q) where
+module _ (p q : Equation) (sp : SimplifiedForm p) (sq : SimplifiedForm q) where
   abbrev v : Valuation
   v = apart p q
 
@@ -93,9 +93,9 @@ module _ (p q : Equation) (sp : Simplified p) (sq : Simplified q) where
       elim (ℕ-discrete (q .left .field .0) (p .left .field .0)) [ yes x ↦ same-left x e | no n ↦ absurd (other-left n e) ]
 
 -- "two different simplified questions differ in truth under some choice of counts"
-pub told-apart : (p q : Equation) → Simplified p → Simplified q → p ≢ q → truth (apart p q) p ≢ truth (apart p q) q
+pub told-apart : (p q : Equation) → SimplifiedForm p → SimplifiedForm q → p ≢ q → truth (apart p q) p ≢ truth (apart p q) q
 told-apart p q sp sq n e = n (both-true p q sp sq (sym e ∙ first-true p q sp sq))
 
 -- "so no question has a second spelling"
-pub one-spelling : (p q : Equation) → Simplified p → Simplified q → ((v : Valuation) → truth v p ≡ truth v q) → p ≡ q
+pub one-spelling : (p q : Equation) → SimplifiedForm p → SimplifiedForm q → ((v : Valuation) → truth v p ≡ truth v q) → p ≡ q
 one-spelling p q sp sq h = both-true p q sp sq (sym (h (apart p q)) ∙ first-true p q sp sq)

@@ -13,7 +13,7 @@ use lib.IntN.{natAbs}
 use Rattle.terms.specs.declared.term.Equation.{Equation}
 use Rattle.terms.specs.declared.simplification.Guard.{Guard}
 use Rattle.terms.specs.declared.simplification.Guard.the-variants.{Never, Always, Question}
-use Rattle.terms.specs.Form.{is-simplified, Simplified, is-number, is-above, is-below}
+use Rattle.terms.specs.Form.{is-simplified, SimplifiedForm, is-number, is-above, is-below}
 use Rattle.terms.specs.Simplify.{turned, larger-left, lowered, settled, simplify, gap}
 use Rattle.terms.proofs.Cases.{by-eq, by-lt}
 use Rattle.terms.proofs.Gap.{difference-abs}
@@ -23,7 +23,7 @@ use Rattle.terms.proofs.SimplifyTruth.{same-test}
 -- ---- the forms
 -- a question with one side bare and the larger field left has one of the forms
 by-numbers : (q : Equation) → q .right .field .0 < q .left .field .0 → min (q .left .steps .0) (q .right .steps .0) ≡ 0
-    → (q .right .field .0 ≡ 0 → q .left .steps .0 ≡ 0) → Simplified q
+    → (q .right .field .0 ≡ 0 → q .left .steps .0 ≡ 0) → SimplifiedForm q
 by-numbers q h m z =
     elim (decLe (q .right .field .0) 0) [
       | yes i ↦ let o : q .right .field .0 ≡ 0 = omega arith in is-number (omega arith) (z o) o
@@ -39,34 +39,34 @@ IfQuestion P Never = Unit {0}
 IfQuestion P Always = Unit {0}
 IfQuestion P (Question q) = P q
 
-settled-form : (d : Equation) → d .right .field .0 < d .left .field .0 → IfQuestion Simplified (settled (lowered d))
+settled-form : (d : Equation) → d .right .field .0 < d .left .field .0 → IfQuestion SimplifiedForm (settled (lowered d))
 unfolding lowered
-settled-form d h = settled-cases (IfQuestion Simplified) (lowered d) (λ _ _. tt) (λ z. by-numbers (lowered d) h (omega arith) z)
+settled-form d h = settled-cases (IfQuestion SimplifiedForm) (lowered d) (λ _ _. tt) (λ z. by-numbers (lowered d) h (omega arith) z)
 
-simplify-form : (e : Equation) → IfQuestion Simplified (simplify e)
-simplify-form e = simplify-cases (IfQuestion Simplified) e (λ _ _. tt) (λ _ _. tt) go
+simplify-form : (e : Equation) → IfQuestion SimplifiedForm (simplify e)
+simplify-form e = simplify-cases (IfQuestion SimplifiedForm) e (λ _ _. tt) (λ _ _. tt) go
   where
-    go : (d : Equation) → Sorted e d → IfQuestion Simplified (settled (lowered d))
+    go : (d : Equation) → Sorted e d → IfQuestion SimplifiedForm (settled (lowered d))
     go d (kept h) = settled-form e h
     go d (swapped h) = settled-form (turned e) h
 
 -- "a question that simplify returns is simplified in the sense of document 000, Corollary 25"
-pub question-simplified : (e q : Equation) → simplify e ≡ Question q → Simplified q
+pub question-simplified : (e q : Equation) → simplify e ≡ Question q → SimplifiedForm q
 question-simplified e q i = rw i at (simplify-form e)
 
 -- ---- a simplified question stays
 module _ (q : Equation) where
-  pub smaller-right : Simplified q → q .right .field .0 < q .left .field .0
+  pub smaller-right : SimplifiedForm q → q .right .field .0 < q .left .field .0
   smaller-right (is-number x s z) = omega arith
   smaller-right (is-above x h s) = h
   smaller-right (is-below x h s) = h
 
-  pub bare-side : Simplified q → min (q .left .steps .0) (q .right .steps .0) ≡ 0
+  pub bare-side : SimplifiedForm q → min (q .left .steps .0) (q .right .steps .0) ≡ 0
   bare-side (is-number x s z) = omega arith
   bare-side (is-above x h s) = omega arith
   bare-side (is-below x h s) = omega arith
 
-  pub bare-left : Simplified q → q .right .field .0 ≡ 0 → q .left .steps .0 ≡ 0
+  pub bare-left : SimplifiedForm q → q .right .field .0 ≡ 0 → q .left .steps .0 ≡ 0
   bare-left (is-number x s z) _ = s
   bare-left (is-above x h s) _ = s
   bare-left (is-below x h s) z = absurd (x z)
@@ -83,7 +83,7 @@ module _ (q : Equation) where
   stays-settled z = settled-cases (λ g. g ≡ Question q) q (λ o h. absurd (omega (arith, z o))) (λ _. refl)
 
   -- "and simplifies to itself"
-  pub simplified-stays : Simplified q → simplify q ≡ Question q
+  pub simplified-stays : SimplifiedForm q → simplify q ≡ Question q
   unfolding simplify
   simplified-stays s =
       let h = smaller-right s in
@@ -91,21 +91,21 @@ module _ (q : Equation) where
 
 -- ---- the test
 -- a question passes the test exactly if it has one of the forms
-pub is-simplified-says : (q : Equation) → is-simplified q ≡ true → Simplified q
+pub is-simplified-says : (q : Equation) → is-simplified q ≡ true → SimplifiedForm q
 unfolding is-simplified
 is-simplified-says q =
-    by-lt (λ t. (t && rest) ≡ true → Simplified q) (q .right .field .0) (q .left .field .0)
-    (λ h. by-eq (λ t. (t || (eqb (q .right .steps .0) 0 && not (eqb (q .right .field .0) 0))) ≡ true → Simplified q) (q .left .steps .0) 0
+    by-lt (λ t. (t && rest) ≡ true → SimplifiedForm q) (q .right .field .0) (q .left .field .0)
+    (λ h. by-eq (λ t. (t || (eqb (q .right .steps .0) 0 && not (eqb (q .right .field .0) 0))) ≡ true → SimplifiedForm q) (q .left .steps .0) 0
     (λ s _. by-numbers q h (omega arith) (λ _. s))
-    (λ n. by-eq (λ t. (t && not (eqb (q .right .field .0) 0)) ≡ true → Simplified q) (q .right .steps .0) 0
-    (λ s. by-eq (λ t. not t ≡ true → Simplified q) (q .right .field .0) 0 (λ _ f. absurd (false≢true f)) (λ z _. is-below z h s))
+    (λ n. by-eq (λ t. (t && not (eqb (q .right .field .0) 0)) ≡ true → SimplifiedForm q) (q .right .steps .0) 0
+    (λ s. by-eq (λ t. not t ≡ true → SimplifiedForm q) (q .right .field .0) 0 (λ _ f. absurd (false≢true f)) (λ z _. is-below z h s))
     (λ _ f. absurd (false≢true f))))
     (λ _ f. absurd (false≢true f))
   where
     rest : Bool
     rest = eqb (q .left .steps .0) 0 || (eqb (q .right .steps .0) 0 && not (eqb (q .right .field .0) 0))
 
-pub is-simplified-exact : (q : Equation) → Simplified q → is-simplified q ≡ true
+pub is-simplified-exact : (q : Equation) → SimplifiedForm q → is-simplified q ≡ true
 unfolding is-simplified
 is-simplified-exact q (is-number x s z) = simp (lt-ltb (q .right .field .0) (q .left .field .0) (omega arith), eq-eqb _ _ s)
 is-simplified-exact q (is-above x h s) = simp (lt-ltb _ _ h, eq-eqb _ _ s)

@@ -6,7 +6,7 @@ use mathlib.Core.Bool.{Bool, true, cond, _&&_}
 use native.Mathlib.Omega.{arith}
 use lib.IntN.{pos, _+ℤ_}
 use Rattle.terms.specs.declared.term.Term.{Term}
-use Rattle.terms.specs.declared.term.TermLimits.{TermLimits}
+use Rattle.terms.specs.declared.limits.TermLimits.{TermLimits}
 use Rattle.terms.specs.declared.term.Equation.{Equation}
 use Rattle.terms.specs.declared.simplification.Guard.{Guard}
 use Rattle.terms.specs.declared.simplification.Guard.the-variants.{Never, Always, Question}

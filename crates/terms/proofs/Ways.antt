@@ -11,7 +11,7 @@ use mir.Syntax.{w32}
 use mir.Val.{SFits, toZ, ofZ}
 use mir.Facts.{toZ-ofZ}
 use Rattle.terms.specs.declared.term.Term.{Term}
-use Rattle.terms.specs.declared.term.TermLimits.{TermLimits}
+use Rattle.terms.specs.declared.limits.TermLimits.{TermLimits}
 use Rattle.terms.specs.declared.term.Equation.{Equation}
 use Rattle.terms.specs.declared.simplification.Guard.{Guard}
 use Rattle.terms.specs.declared.simplification.Guard.the-variants as guard
@@ -19,7 +19,8 @@ use Rattle.terms.specs.declared.simplification.Answer.{Answer}
 use Rattle.terms.specs.declared.simplification.Simplified.{Simplified}
 use Rattle.terms.specs.declared.simplification.Simplified.the-variants.{Refused, Never, Always, Question}
 use Rattle.terms.specs.Words.{equation, term-of, word-of, allows}
-use Rattle.terms.specs.Simplify.{turned, larger-left, less-steps, lowered, settled, simplify, gap, shown, HasWords, simplify-words, answer}
+use Rattle.terms.specs.Needs.{HasWords}
+use Rattle.terms.specs.Simplify.{turned, larger-left, less-steps, lowered, settled, simplify, gap, shown, simplify-words, answer}
 use Rattle.terms.proofs.SimplifyCases.{Sorted, kept, swapped, settled-cases, simplify-cases}
 
 module _ (limits : TermLimits) (t : Term) where

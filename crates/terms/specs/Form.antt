@@ -13,10 +13,10 @@ is-simplified e =
     && (eqb (e .left .steps .0) 0 || (eqb (e .right .steps .0) 0 && not (eqb (e .right .field .0) 0)))
 
 -- m is the step count of the other side, and may be 0.
-pub data Simplified (e : Equation) : Type 0 where
+pub data SimplifiedForm (e : Equation) : Type 0 where
   -- x = S^m(0) for some x ∈ V
-  is-number : e .left .field .0 ≢ 0 → e .left .steps .0 ≡ 0 → e .right .field .0 ≡ 0 → Simplified e
+  is-number : e .left .field .0 ≢ 0 → e .left .steps .0 ≡ 0 → e .right .field .0 ≡ 0 → SimplifiedForm e
   -- y = S^m(x) for some x, y ∈ V, x ≺ y
-  is-above : e .right .field .0 ≢ 0 → e .right .field .0 < e .left .field .0 → e .left .steps .0 ≡ 0 → Simplified e
+  is-above : e .right .field .0 ≢ 0 → e .right .field .0 < e .left .field .0 → e .left .steps .0 ≡ 0 → SimplifiedForm e
   -- S^m(y) = x for some x, y ∈ V, x ≺ y
-  is-below : e .right .field .0 ≢ 0 → e .right .field .0 < e .left .field .0 → e .right .steps .0 ≡ 0 → Simplified e
+  is-below : e .right .field .0 ≢ 0 → e .right .field .0 < e .left .field .0 → e .right .steps .0 ≡ 0 → SimplifiedForm e

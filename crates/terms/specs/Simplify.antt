@@ -1,10 +1,10 @@
 -- Simplifying an equation of two terms (document 01, "Simplifying an equation of two terms"; document 000, Definition 24).
-use Prim.Native.Nat.{ℕ, _-_, _<_, _^_, min}
+use Prim.Native.Nat.{ℕ, _-_, min}
 use mathlib.Core.Bool.{cond, _&&_}
 use lib.Dec.{eqb, ltb}
 use lib.IntN.{ℤ, pos, _-ℤ_}
 use Rattle.terms.specs.declared.term.Term.{Term}
-use Rattle.terms.specs.declared.term.TermLimits.{TermLimits}
+use Rattle.terms.specs.declared.limits.TermLimits.{TermLimits}
 use Rattle.terms.specs.declared.term.Equation.{Equation}
 use Rattle.terms.specs.declared.simplification.Guard.{Guard}
 use Rattle.terms.specs.declared.simplification.Guard.the-variants as guard
@@ -50,12 +50,6 @@ abbrev pub shown : Guard → Simplified
 shown guard.Never = Never
 shown guard.Always = Always
 shown (guard.Question e) = Question (word-of (e .left)) (word-of (e .right)) (gap e)
-
--- a question's terms fit 32-bit words, as they do if it comes of two such words
-abbrev pub HasWords : Guard → Type 0
-HasWords guard.Never = Unit {0}
-HasWords guard.Always = Unit {0}
-HasWords (guard.Question e) = (word-of (e .left) < 2 ^ 32) × (word-of (e .right) < 2 ^ 32)
 
 -- The operation, on any two words: refused if one of the two terms is not within the limits.
 unfoldable pub simplify-words : TermLimits → ℕ → ℕ → Simplified

@@ -7,7 +7,7 @@ use lib.Dec.{leb}
 use Rattle.terms.specs.declared.term.Field.{Field}
 use Rattle.terms.specs.declared.term.Steps.{Steps}
 use Rattle.terms.specs.declared.term.Term.{Term}
-use Rattle.terms.specs.declared.term.TermLimits.{TermLimits}
+use Rattle.terms.specs.declared.limits.TermLimits.{TermLimits}
 use Rattle.terms.specs.declared.term.Equation.{Equation}
 
 abbrev pub field : ℕ → Field
@@ -33,11 +33,6 @@ word-of t = t .steps .0 * step-weight + t .field .0
 
 abbrev pub term-of : ℕ → Term
 term-of word = term (field (word % step-weight)) (steps (word / step-weight))
-
--- "A sheet has n fields, numbered 1 to n, n from 0 to 16. ... A term is a field and a number of steps, 0 to 255":
--- the largest field number and the largest step count of a term. A store's own n takes the place of the 16.
-abbrev pub term-limits : TermLimits
-term-limits = record { field = field 16; steps = steps 255 }
 
 -- neither "field above n" nor "steps above 255"
 unfoldable pub allows : TermLimits → Term → Bool

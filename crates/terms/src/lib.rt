@@ -1,8 +1,17 @@
 // Terms, equations of two terms, and simplifying them.
+mod limits;
 mod question;
 mod simplification;
 mod term;
 
+pub use limits::Limits;
+pub use limits::MOST_ENTRIES;
+pub use limits::MOST_FIELDS;
+pub use limits::MOST_QUESTIONS;
+pub use limits::TermLimits;
+pub use limits::limits_of_store;
+pub use limits::term_limits;
+pub use limits::terms_within;
 pub use question::is_simplified;
 pub use question::precedes;
 pub use simplification::Answer;
@@ -16,8 +25,6 @@ pub use term::Equation;
 pub use term::Field;
 pub use term::Steps;
 pub use term::Term;
-pub use term::TermLimits;
 pub use term::allows;
-pub use term::term_limits;
 pub use term::term_of;
 pub use term::word_of;

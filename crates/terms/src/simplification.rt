@@ -2,15 +2,16 @@
 ghost use mathlib.Core.Path.{_≡_};
 ghost use Prim.Native.Nat.{_<_, _≤_, _^_, min};
 ghost use lib.IntN.{pos, _-ℤ_};
+ghost use Rattle.terms.specs.Needs.{HasWords};
 ghost use Rattle.terms.specs.Simplify as spec;
-ghost use Rattle.terms.specs.Words as words;
+ghost use Rattle.terms.specs.Limits as limit;
+use crate::limits::TermLimits;
+use crate::limits::term_limits;
 use crate::term::Equation;
 use crate::term::Field;
 use crate::term::Steps;
 use crate::term::Term;
-use crate::term::TermLimits;
 use crate::term::allows;
-use crate::term::term_limits;
 use crate::term::term_of;
 use crate::term::word_of;
 
@@ -118,7 +119,7 @@ fn gap(e: Equation) -> i32
 
 // A guard as an answer: a question by its words and gap.
 fn shown(g: Guard) -> Simplified
-    requires { ⌜ spec.HasWords g ⌝ }
+    requires { ⌜ HasWords g ⌝ }
     ensures { λ r. ⌜ r ≡ spec.shown g ⌝ }
 {
     match g {
@@ -148,7 +149,7 @@ pub fn simplify_within(limits: TermLimits, left: u32, right: u32) -> Simplified
 
 // Simplifies two term words.
 pub fn simplify(left: u32, right: u32) -> Simplified
-    ensures { λ r. ⌜ r ≡ spec.simplify-words words.term-limits left right ⌝ }
+    ensures { λ r. ⌜ r ≡ spec.simplify-words limit.term-limits left right ⌝ }
 {
     simplify_within(term_limits(), left, right)
 }

@@ -2,6 +2,7 @@
 ghost use mathlib.Core.Path.{_≡_};
 ghost use Prim.Native.Nat.{_<_, _^_};
 ghost use Rattle.terms.specs.Words as words;
+use crate::limits::TermLimits;
 
 // The number of a field. 0 stands for zero.
 pub struct Field(pub u32);
@@ -15,12 +16,6 @@ pub struct Term {
     pub steps: Steps,
 }
 
-// The largest field number and the largest step count that a term may have.
-pub struct TermLimits {
-    pub field: Field,
-    pub steps: Steps,
-}
-
 // Two terms that are said to be equal.
 pub struct Equation {
     pub left: Term,
@@ -29,16 +24,6 @@ pub struct Equation {
 
 // A step's weight in a term word, of which the field is the remainder.
 const STEP_WEIGHT: u32 = 32;
-
-// The limits of every term that an operation is given.
-pub fn term_limits() -> TermLimits
-    ensures { λ r. ⌜ r ≡ words.term-limits ⌝ }
-{
-    TermLimits {
-        field: Field(16),
-        steps: Steps(255),
-    }
-}
 
 // The term that a word holds.
 pub fn term_of(word: u32) -> Term

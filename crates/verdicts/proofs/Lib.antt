@@ -1,4 +1,4 @@
-pub mod WalkLaws
+pub mod DescentLaws
 pub mod LeavesLaws
 pub mod ReachedExact
 pub mod VerdictMeans

@@ -6,29 +6,21 @@ use mathlib.Core.Bool.{Bool, true, false, cond, true≢false}
 use mathlib.Core.List.{List, []}
 use borrow.Author.Tests.{lt-ltb}
 use Rattle.facts.specs.State.{start}
-use Rattle.store.specs.declared.limits.Limits.{Limits}
+use Rattle.terms.specs.declared.limits.Limits.{Limits}
 use Rattle.store.specs.Layout.{used, question, leaves}
 use Rattle.store.specs.Meaning.{meaning}
 use Rattle.store.specs.Sound.{sound}
 use Rattle.store.specs.Tree.{tree}
 use Rattle.terms.specs.Meaning.{Valuation}
-use Rattle.verdicts.specs.declared.deciding.Verdict.{Verdict}
-use Rattle.verdicts.specs.declared.deciding.Verdict.the-variants.{Never, Always, Sometimes}
+use Rattle.verdicts.specs.declared.answer.Verdict.the-variants.{Never, Always, Sometimes}
 use Rattle.verdicts.specs.declared.leaves.Leaves.{Leaves}
 use Rattle.verdicts.specs.Leaves.{reached}
 use Rattle.verdicts.specs.Verdict.{by-leaves, verdict}
+use Rattle.verdicts.specs.VerdictSays.{VerdictSays}
 use Rattle.store.proofs.SoundFacts.{sound-says}
 use Rattle.store.proofs.SoundTree.{meaning-is-tree}
 use Rattle.terms.proofs.Cases.{by-test}
 use Rattle.verdicts.proofs.ReachedExact.{flag, reached-leads, leads-reached}
-
--- what a verdict says of a meaning
-abbrev pub Says : Verdict → (Valuation → Bool) → Type 0
-Says Never means = (v : Valuation) → means v ≡ false
-Says Always means = (v : Valuation) → means v ≡ true
-Says Sometimes means = ((v : Valuation) × (means v ≡ true)) × ((v : Valuation) × (means v ≡ false))
-Says Verdict.NotSound means = ⊥
-Says Verdict.NoHandle means = ⊥
 
 module _ (limits : Limits) (s : List ℕ) (handle : ℕ) (is : sound limits s ≡ true) (h : handle < used s + leaves) where
   abbrev l : Leaves
@@ -47,9 +39,9 @@ module _ (limits : Limits) (s : List ℕ) (handle : ℕ) (is : sound limits s �
   none-means : (b : Bool) → flag b l ≡ false → (v : Valuation) → meaning s handle v ≡ b → ⊥
   none-means b e v m = true≢false (sym (means-reached v) ∙ ap (λ c. flag c l) m ∙ e)
 
-  by-leaves-says : Says (by-leaves l) (meaning s handle)
-  by-leaves-says = by-test (λ a. Says (cond a (cond (l .never) Sometimes Always) Never) (meaning s handle)) (l .always)
-      (λ a. by-test (λ n. Says (cond n Sometimes Always) (meaning s handle)) (l .never)
+  by-leaves-says : VerdictSays (by-leaves l) (meaning s handle)
+  by-leaves-says = by-test (λ a. VerdictSays (cond a (cond (l .never) Sometimes Always) Never) (meaning s handle)) (l .always)
+      (λ a. by-test (λ n. VerdictSays (cond n Sometimes Always) (meaning s handle)) (l .never)
       (λ n. (some-means true a, some-means false n))
       (λ n v. by-test (λ b. b ≡ true) (meaning s handle v) (λ _. refl) (λ m. absurd (none-means false n v m))))
       (λ a v. by-test (λ b. b ≡ false) (meaning s handle v) (λ m. absurd (none-means true a v m)) (λ _. refl))
@@ -58,6 +50,6 @@ module _ (limits : Limits) (s : List ℕ) (handle : ℕ) (is : sound limits s �
   unfolding verdict
   verdict-is = rw (is, lt-ltb handle (used s + leaves) h) refl
 
-  -- "0, 1, 2 are no choice, every choice, some but not all"
-  pub verdict-says : Says (verdict limits s handle) (meaning s handle)
+  -- "0 never, 1 always, 2 sometimes, by meaning, in any sound store"
+  pub verdict-says : VerdictSays (verdict limits s handle) (meaning s handle)
   verdict-says = rw verdict-is by-leaves-says

@@ -1,2 +1,4 @@
 pub mod Leaves
 pub mod Verdict
+pub mod VerdictSays
+pub mod Needs

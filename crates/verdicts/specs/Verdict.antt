@@ -1,15 +1,16 @@
 -- "Verdict of a handle: 0 never, 1 always, 2 sometimes, by meaning, in any sound store."
-use Prim.Native.Nat.{ℕ, _+_}
+use Prim.Native.Nat.{ℕ}
 use mathlib.Core.Bool.{cond}
 use mathlib.Core.List.{List}
-use lib.Dec.{ltb}
 use Rattle.facts.specs.State.{start}
-use Rattle.store.specs.declared.limits.Limits.{Limits}
-use Rattle.store.specs.Layout.{used, question, leaves}
+use Rattle.store.specs.Layout.{question, is-handle}
 use Rattle.store.specs.Sound.{sound}
 use Rattle.store.specs.Tree.{tree}
-use Rattle.verdicts.specs.declared.deciding.Verdict.{Verdict}
-use Rattle.verdicts.specs.declared.deciding.Verdict.the-variants.{Never, Always, Sometimes, NotSound, NoHandle}
+use Rattle.terms.specs.declared.limits.Limits.{Limits}
+use Rattle.verdicts.specs.declared.answer.Verdict.{Verdict}
+use Rattle.verdicts.specs.declared.answer.Verdict.the-variants.{Never, Always, Sometimes, Refused}
+use Rattle.verdicts.specs.declared.answer.VerdictFault.{VerdictFault}
+use Rattle.verdicts.specs.declared.answer.VerdictFault.the-variants.{NotSound, NoHandle}
 use Rattle.verdicts.specs.declared.leaves.Leaves.{Leaves}
 use Rattle.verdicts.specs.Leaves.{reached}
 
@@ -21,19 +22,22 @@ by-leaves l = cond (l .always) (cond (l .never) Sometimes Always) Never
 unfoldable pub verdict : Limits → List ℕ → ℕ → Verdict
 verdict limits s handle =
     cond (sound limits s)
-    (cond (ltb handle (used s + leaves)) (by-leaves (reached (question s) (tree s handle) start)) NoHandle)
-    NotSound
+    (cond (is-handle s handle) (by-leaves (reached (question s) (tree s handle) start)) (Refused NoHandle))
+    (Refused NotSound)
+
+abbrev pub verdict-fault-number : VerdictFault → ℕ
+verdict-fault-number NotSound = 22
+verdict-fault-number NoHandle = 41
 
 abbrev pub verdict-number : Verdict → ℕ
 verdict-number Never = 0
 verdict-number Always = 0
 verdict-number Sometimes = 0
-verdict-number NotSound = 22
-verdict-number NoHandle = 41
+verdict-number (Refused f) = verdict-fault-number f
 
+-- "0 never, 1 always, 2 sometimes"
 abbrev pub verdict-result : Verdict → ℕ
 verdict-result Never = 0
 verdict-result Always = 1
 verdict-result Sometimes = 2
-verdict-result NotSound = 0
-verdict-result NoHandle = 0
+verdict-result (Refused f) = 0

@@ -1,27 +1,18 @@
 // The verdict of a handle.
 ghost use mathlib.Core.Path.{_≡_};
-ghost use Prim.Native.Nat.{_≤_};
-ghost use Rattle.index.specs.Capacity.{capacity};
-ghost use Rattle.store.specs.Limits as limit;
-ghost use Rattle.verdicts.specs.Leaves as leaves;
+ghost use Rattle.terms.specs.Limits as limit;
+ghost use Rattle.terms.specs.Needs.{FitLimits};
 ghost use Rattle.verdicts.specs.Verdict as spec;
+use crate::answer::Verdict;
+use crate::answer::VerdictFault;
 use crate::leaves::Leaves;
 use crate::leaves::leaves_from;
 use facts::no_facts;
 use soundness::is_sound;
-use store::Limits;
 use store::has_handle;
-use store::limits_of_store;
 use store::wide;
-
-// What a verdict answers: whether no, every, or some but not every choice of counts satisfies the handle, or why it was not asked.
-pub enum Verdict {
-    Never,
-    Always,
-    Sometimes,
-    NotSound,
-    NoHandle,
-}
+use terms::Limits;
+use terms::limits_of_store;
 
 // The verdict by the leaves that are reached.
 fn by_leaves(l: Leaves) -> Verdict
@@ -38,17 +29,16 @@ fn by_leaves(l: Leaves) -> Verdict
 
 // The verdict of a handle within limits.
 pub fn verdict_within(limits: Limits, s: &[u32], handle: u32) -> Verdict
-    requires { ⌜ limits .entries ≤ capacity ⌝ }
-    requires { ⌜ leaves.Roomy limits ⌝ }
+    requires { ⌜ FitLimits limits ⌝ }
     ensures { λ r. ⌜ r ≡ spec.verdict limits (now (s .entry)) handle ⌝ }
 {
     if is_sound(limits, s) {
         if has_handle(s, handle) {
             return by_leaves(leaves_from(s, wide(handle), no_facts()));
         }
-        return Verdict::NoHandle;
+        return Verdict::Refused(VerdictFault::NoHandle);
     }
-    Verdict::NotSound
+    Verdict::Refused(VerdictFault::NotSound)
 }
 
 // The verdict of a handle.
@@ -56,30 +46,4 @@ pub fn verdict_of(s: &[u32], handle: u32) -> Verdict
     ensures { λ r. ⌜ r ≡ spec.verdict limit.store-limits (now (s .entry)) handle ⌝ }
 {
     verdict_within(limits_of_store(), s, handle)
-}
-
-// A verdict's number.
-pub fn verdict_number(v: Verdict) -> u32
-    ensures { λ r. ⌜ r ≡ spec.verdict-number v ⌝ }
-{
-    match v {
-        Verdict::Never => 0,
-        Verdict::Always => 0,
-        Verdict::Sometimes => 0,
-        Verdict::NotSound => 22,
-        Verdict::NoHandle => 41,
-    }
-}
-
-// A verdict's result.
-pub fn verdict_result(v: Verdict) -> u32
-    ensures { λ r. ⌜ r ≡ spec.verdict-result v ⌝ }
-{
-    match v {
-        Verdict::Never => 0,
-        Verdict::Always => 1,
-        Verdict::Sometimes => 2,
-        Verdict::NotSound => 0,
-        Verdict::NoHandle => 0,
-    }
 }

@@ -8,11 +8,13 @@ use borrow.Author.Tests.{eq-eqb, ne-eqb}
 use Rattle.facts.specs.declared.decision.Decision.{Decision}
 use Rattle.facts.specs.declared.decision.Decision.the-variants.{Always, Never, Open}
 use Rattle.facts.specs.declared.record.Facts.{Facts}
-use Rattle.facts.specs.Record.{state, Ready}
+use Rattle.facts.specs.Needs.{state, Askable}
 use Rattle.facts.specs.State.{State, decide}
+use Rattle.store.specs.declared.entries.Entry.{Entry}
 use Rattle.store.specs.Layout.{question, used, entry, leaves}
+use Rattle.store.specs.Needs.{HasQuestion, HasEntry}
 use Rattle.terms.specs.declared.term.Equation.{Equation}
-use Rattle.walking.specs.Ready.{Walkable, InList, HasEntry, Follows}
+use Rattle.walking.specs.Needs.{Walkable, CanFollow}
 use Rattle.walking.specs.Value.{tree-value, handle-value}
 use Rattle.facts.proofs.HeldFacts.{holds-ready}
 use Rattle.store.proofs.Handles.{Falling, tree-entry}
@@ -23,11 +25,11 @@ falling w = record { yes-below = w .yes-below; no-below = w .no-below }
 
 -- ---- the value at an entry
 module _ {s : List ℕ} (w : Walkable s) (i : ℕ) (h : i < used s) (st : State) where
-  value-yes : decide st (question s (entry s i .question)) ≡ Always → handle-value s (i + leaves) st ≡ handle-value s (entry s i .yes-to) st
+  value-yes : decide st (question s (entry s i .question)) ≡ Always → handle-value s (i + leaves) st ≡ handle-value s (entry s i .yes) st
   unfolding tree-value
   value-yes e = rw (tree-entry (falling w) i h, e, tree-value)
 
-  value-no : decide st (question s (entry s i .question)) ≡ Never → handle-value s (i + leaves) st ≡ handle-value s (entry s i .no-to) st
+  value-no : decide st (question s (entry s i .question)) ≡ Never → handle-value s (i + leaves) st ≡ handle-value s (entry s i .no) st
   unfolding tree-value
   value-no e = rw (tree-entry (falling w) i h, e, tree-value)
 
@@ -50,9 +52,9 @@ pub record Following (s : List ℕ) (handle : ℕ) (st : State) (h : ℕ) : Type
   pub named : h < used s + leaves
   pub same : handle-value s handle st ≡ handle-value s h st
 
-module _ {s : List ℕ} {handle : ℕ} {f : Facts} (w : Follows s handle f) where
-  pub follow-start : Following s handle (state f) handle
-  follow-start = record { named = w .named; same = refl }
+module _ {s : List ℕ} {handle : ℕ} {f : Facts} (w : CanFollow s handle f) where
+  pub follow-start : {h : ℕ} → h ≡ handle → Following s handle (state f) h
+  follow-start e = record { named = omega (arith, w .named); same = ap (λ (x : ℕ). handle-value s x (state f)) (sym e) }
 
   module _ {h : ℕ} (inv : Following s handle (state f) h) where
     -- ---- at a leaf
@@ -70,44 +72,57 @@ module _ {s : List ℕ} {handle : ℕ} {f : Facts} (w : Follows s handle f) wher
       at-entry : handle-value s handle (state f) ≡ handle-value s (i + leaves) (state f)
       at-entry = inv .same ∙ ap (λ (x : ℕ). handle-value s x (state f)) (omega arith)
 
-      pub follow-entry : HasEntry s i
-      follow-entry = record { entry-in = omega (arith, entry-used, w .walkable .used-in) }
+      pub at-handle-entry : HasEntry s i
+      at-handle-entry = omega (arith, entry-used, w .walkable .used-in)
 
-      module _ {k : ℕ} (ek : k ≡ entry s i .question) where
-        pub follow-listed : InList s k
-        follow-listed = record {
-          at-least = omega (arith, w .walkable .asks-some i entry-used);
-          at-most = omega (arith, w .walkable .asks-listed i entry-used);
-          list-in = omega (arith, w .walkable .used-in);
-        }
+      module _ {e : Entry} (ee : e ≡ entry s i) where
+        asked : {k : ℕ} → k ≡ e .question → k ≡ entry s i .question
+        asked ek = ek ∙ ap (λ (x : Entry). x .question) ee
 
-        module _ {q : Equation} (eq : q ≡ question s k) where
-          pub follow-ready : Ready f q
-          follow-ready = subst (Ready f) (sym eq) (holds-ready (w .holds) (omega arith) (omega arith) (question s k)
-              (w .walkable .list-small k (follow-listed .at-least) (follow-listed .at-most)))
+        pub asks-question : {k : ℕ} → k ≡ e .question → HasQuestion s k
+        asks-question {k} ek =
+            let at : k ≡ entry s i .question = asked ek in
+            record {
+              from-one = omega (arith, w .walkable .asks-some i entry-used);
+              to-last = omega (arith, w .walkable .asks-listed i entry-used);
+              list-in = omega (arith, w .walkable .used-in);
+            }
+
+        module _ {k : ℕ} (ek : k ≡ e .question) {q : Equation} (eq : q ≡ question s k) where
+          pub can-decide : Askable f q
+          can-decide = subst (Askable f) (sym eq) (holds-ready (w .holds) (omega arith) (omega arith) (question s k)
+              (w .walkable .list-small k (asks-question ek .from-one) (asks-question ek .to-last)))
 
           module _ {d : Decision} (ed : d ≡ decide (state f) q) where
             decides : decide (state f) (question s (entry s i .question)) ≡ d
-            decides = sym (ed ∙ ap (decide (state f)) (eq ∙ ap (question s) ek))
+            decides = sym (ed ∙ ap (decide (state f)) (eq ∙ ap (question s) (asked ek)))
 
             pub follow-open : d ≡ Open → Open ≡ handle-value s handle (state f)
-            follow-open e = sym (at-entry ∙ value-open (w .walkable) i entry-used (state f) (decides ∙ e))
+            follow-open z = sym (at-entry ∙ value-open (w .walkable) i entry-used (state f) (decides ∙ z))
 
-            pub follow-yes : {y : ℕ} → d ≡ Always → y ≡ entry s i .yes-to → Following s handle (state f) y
-            follow-yes e ey = record {
-              named = omega (arith, entry-used, w .walkable .yes-below i entry-used);
-              same = at-entry ∙ value-yes (w .walkable) i entry-used (state f) (decides ∙ e) ∙ ap (λ (x : ℕ). handle-value s x (state f)) (sym ey);
-            }
+            pub follow-yes : {y : ℕ} → d ≡ Always → y ≡ e .yes → Following s handle (state f) y
+            follow-yes {y} z ey =
+                let at : y ≡ entry s i .yes = ey ∙ ap (λ (x : Entry). x .yes) ee in
+                record {
+                  named = omega (arith, entry-used, w .walkable .yes-below i entry-used);
+                  same = at-entry ∙ value-yes (w .walkable) i entry-used (state f) (decides ∙ z) ∙ ap (λ (x : ℕ). handle-value s x (state f)) (sym at);
+                }
 
-            pub follow-no : {n : ℕ} → d ≡ Never → n ≡ entry s i .no-to → Following s handle (state f) n
-            follow-no e en = record {
-              named = omega (arith, entry-used, w .walkable .no-below i entry-used);
-              same = at-entry ∙ value-no (w .walkable) i entry-used (state f) (decides ∙ e) ∙ ap (λ (x : ℕ). handle-value s x (state f)) (sym en);
-            }
+            pub follow-no : {n : ℕ} → d ≡ Never → n ≡ e .no → Following s handle (state f) n
+            follow-no {n} z en =
+                let at : n ≡ entry s i .no = en ∙ ap (λ (x : Entry). x .no) ee in
+                record {
+                  named = omega (arith, entry-used, w .walkable .no-below i entry-used);
+                  same = at-entry ∙ value-no (w .walkable) i entry-used (state f) (decides ∙ z) ∙ ap (λ (x : ℕ). handle-value s x (state f)) (sym at);
+                }
 
-      -- "its handles are smaller than its own"
-      pub falls-yes : {y : ℕ} → y ≡ entry s i .yes-to → y < h
-      falls-yes e = omega (arith, w .walkable .yes-below i entry-used)
+        -- "its handles are smaller than its own"
+        pub falls-yes : {y : ℕ} → y ≡ e .yes → y < h
+        falls-yes {y} ey =
+            let at : y ≡ entry s i .yes = ey ∙ ap (λ (x : Entry). x .yes) ee in
+            omega (arith, w .walkable .yes-below i entry-used)
 
-      pub falls-no : {n : ℕ} → n ≡ entry s i .no-to → n < h
-      falls-no e = omega (arith, w .walkable .no-below i entry-used)
+        pub falls-no : {n : ℕ} → n ≡ e .no → n < h
+        falls-no {n} en =
+            let at : n ≡ entry s i .no = en ∙ ap (λ (x : Entry). x .no) ee in
+            omega (arith, w .walkable .no-below i entry-used)

@@ -1,10 +1,9 @@
-pub mod ReadWays
 pub mod FollowWays
-pub mod RowWays
+pub mod RowValues
 pub mod ValueWays
 pub mod PlaceWays
 pub mod PlaceIndexed
-pub mod AddedEntry
+pub mod WalkableAdded
 pub mod WalkKeeps
 pub mod WalkCalls
 pub mod WalkWays

@@ -5,21 +5,15 @@ use mathlib.Core.Logic.{_≢_}
 use mathlib.Core.List.{List}
 use native.Mathlib.Omega.{arith}
 use borrow.Author.Tests.{eq-eqb, ne-eqb, lt-ltb, le-ltb}
-use lib.ListN.{set}
 use Rattle.diagram.specs.declared.placing.Placed.{Placed}
 use Rattle.diagram.specs.declared.placing.Placed.the-variants.{At, Full}
-use Rattle.diagram.specs.Insert.{an-entry, with-entry, add-entry, place-entry}
-use Rattle.index.specs.Entries.{find-entry}
-use Rattle.store.specs.declared.limits.Limits.{Limits}
-use Rattle.store.specs.Layout.{Entry, used, entries-start, leaves, room}
+use Rattle.diagram.specs.Insert.{add-entry, place-entry}
+use Rattle.terms.specs.declared.limits.Limits.{Limits}
+use Rattle.store.specs.declared.entries.Entry.{Entry}
+use Rattle.store.specs.Entries.{find-entry, with-entry}
+use Rattle.store.specs.Layout.{used, leaves, room}
 use Rattle.store.specs.Outcome.{Outcome, outcome}
 use Rattle.walking.specs.Walk.{place-parts}
-
--- ---- appending
-pub appended : (s : List ℕ) (k y n : ℕ) {start u : ℕ} → start ≡ entries-start s → u ≡ used s
-    → set (set (set (set s (start + 3 * u) k) (start + 3 * u + 1) y) (start + 3 * u + 2) n) 2 (used s + 1) ≡ with-entry s (an-entry k y n)
-unfolding with-entry
-appended s k y n es eu = rw (es, eu)
 
 -- ---- placing
 module _ (limits : Limits) (s : List ℕ) (e : Entry) where
@@ -51,11 +45,11 @@ module _ (limits : Limits) (s : List ℕ) (e : Entry) {u i : ℕ} (eu : u ≡ us
     placed-nowhere l = not-added limits s e (omega arith) ∙ absent
 
 -- ---- two parts
-module _ (limits : Limits) (s : List ℕ) (k y n : ℕ) where
-  pub same-parts : y ≡ n → outcome (At y) s ≡ place-parts limits k y n s
+module _ (limits : Limits) (s : List ℕ) (e : Entry) where
+  pub same-parts : e .yes ≡ e .no → outcome (At (e .yes)) s ≡ place-parts limits s e
   unfolding place-parts
-  same-parts e = rw (eq-eqb y n e)
+  same-parts h = rw (eq-eqb (e .yes) (e .no) h)
 
-  pub two-parts : {o : Outcome Placed} → y ≢ n → o ≡ place-entry limits s (an-entry k y n) → o ≡ place-parts limits k y n s
+  pub two-parts : {o : Outcome Placed} → e .yes ≢ e .no → o ≡ place-entry limits s e → o ≡ place-parts limits s e
   unfolding place-parts
-  two-parts d e = rw (ne-eqb y n d) e
+  two-parts d h = rw (ne-eqb (e .yes) (e .no) d) h

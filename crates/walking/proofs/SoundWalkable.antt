@@ -1,40 +1,39 @@
 -- A sound store is fit for a walk, since what a walk relies on is part of what the rules of a sound store say; so a walk over all questions can
 -- begin with no facts.
-use Prim.Native.Nat.{ℕ}
+use Prim.Native.Nat.{ℕ, _≤_}
 use mathlib.Core.Path.{_≡_}
 use mathlib.Core.Bool.{true}
 use mathlib.Core.List.{List}
 use native.Mathlib.Omega.{arith}
 use Rattle.facts.specs.declared.record.Facts.{Facts}
-use Rattle.facts.specs.Record.{state, most-steps}
+use Rattle.facts.specs.Needs.{state}
+use Rattle.terms.specs.Limits.{most-count}
 use Rattle.facts.specs.State.{start}
-use Rattle.store.specs.declared.limits.Limits.{Limits}
+use Rattle.terms.specs.declared.limits.Limits.{Limits}
 use Rattle.store.specs.Layout.{question-count}
-use Rattle.store.specs.Limits.{store-limits}
 use Rattle.store.specs.Sound.{sound}
+use Rattle.terms.specs.Needs.{FitLimits}
 use Rattle.walking.specs.declared.subject.Subject.{Subject}
-use Rattle.walking.specs.Ready.{FitLimits, Walkable, Named, CanWalk}
+use Rattle.walking.specs.Needs.{Walkable, Named, CanWalk}
 use Rattle.facts.proofs.HeldFacts.{holds-none}
 use Rattle.store.proofs.SoundFacts.{sound-says, used-fits, used-few}
 use Rattle.store.proofs.SoundList.{sound-question}
 
-pub store-limits-fit : FitLimits store-limits
-store-limits-fit = record { fields-few = omega arith; steps-few = omega arith; questions-few = omega arith; entries-few = omega arith }
-
 pub sound-walkable : (limits : Limits) (s : List ℕ) → FitLimits limits → sound limits s ≡ true → Walkable s
 sound-walkable limits s fit t =
     let snd = sound-says limits s t in
+    let few-steps : limits .terms .steps .0 ≤ most-count = omega (arith, fit .counts-fit) in
     record {
-      list-short = omega (arith, snd .questions-in, fit .questions-few);
+      list-short = omega (arith, snd .questions-in, fit .questions-fit);
       list-small = λ k first last.
           let kept = sound-question snd k first last in
           record {
-            left-in = omega (arith, kept .left .field-in, snd .fields-in, fit .fields-few);
-            right-in = omega (arith, kept .right .field-in, snd .fields-in, fit .fields-few);
-            left-steps = omega (arith, kept .left .steps-in, fit .steps-few);
-            right-steps = omega (arith, kept .right .steps-in, fit .steps-few);
+            left-in = omega (arith, kept .left .field-in, snd .fields-in, fit .fields-fit);
+            right-in = omega (arith, kept .right .field-in, snd .fields-in, fit .fields-fit);
+            left-steps = omega (arith, kept .left .steps-in, few-steps);
+            right-steps = omega (arith, kept .right .steps-in, few-steps);
           };
-      used-few = omega (arith, used-few snd, fit .entries-few);
+      used-few = omega (arith, used-few snd, fit .entries-fit);
       used-in = used-fits snd;
       asks-some = λ i h. snd .entry-kept i h .asks-some;
       asks-listed = λ i h. snd .entry-kept i h .asks-listed;
@@ -43,13 +42,13 @@ sound-walkable limits s fit t =
     }
 
 -- "start with no facts"
-pub can-begin : {limits : Limits} (table : List ℕ) (subject : Subject) (s : List ℕ) {f : Facts} → FitLimits limits → sound limits s ≡ true → Named table subject s
-    → state f ≡ start → CanWalk limits table subject s f 1 (question-count s)
-can-begin {limits} table subject s fit t named e = record {
-  entries-few = fit .entries-few;
+pub can-begin : {limits : Limits} (s source : List ℕ) (subject : Subject) {f : Facts} → FitLimits limits → sound limits s ≡ true → Named s source subject
+    → state f ≡ start → CanWalk limits s source subject f 1 (question-count s)
+can-begin {limits} s source subject fit t named e = record {
+  fit = fit;
   walkable = sound-walkable limits s fit t;
   named = named;
   from-one = omega arith;
   to-last = omega arith;
-  holds = holds-none most-steps e;
+  holds = holds-none most-count e;
 }

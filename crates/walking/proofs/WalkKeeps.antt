@@ -7,21 +7,26 @@ use native.Mathlib.Omega.{arith}
 use lib.ListN.{length}
 use Rattle.diagram.specs.declared.placing.Placed.{Placed}
 use Rattle.diagram.specs.declared.placing.Placed.the-variants.{At, Full}
-use Rattle.diagram.specs.Insert.{an-entry, with-entry, add-entry, place-entry, then-place}
+use Rattle.diagram.specs.Insert.{add-entry, place-entry, then-place}
 use Rattle.facts.specs.declared.decision.Decision.{Decision}
 use Rattle.facts.specs.declared.decision.Decision.the-variants.{Always, Never, Open}
 use Rattle.facts.specs.State.{State, no-to, yes-to, decide}
-use Rattle.index.specs.Entries.{find-entry}
-use Rattle.store.specs.declared.limits.Limits.{Limits}
-use Rattle.store.specs.Layout.{question-count, used, question, entries-start, leaves, room}
+use Rattle.terms.specs.declared.limits.Limits.{Limits}
+use Rattle.store.specs.declared.entries.Entry.{Entry}
+use Rattle.store.specs.Entries.{find-entry, with-entry}
+use Rattle.store.specs.Grown.{Agree}
+use Rattle.store.specs.Layout.{question-count, used, question, entries-start, entry-of, leaves, room}
+use Rattle.store.specs.Needs.{HasEntry}
 use Rattle.store.specs.Outcome.{Outcome, outcome}
 use Rattle.walking.specs.declared.subject.Subject.{Subject}
-use Rattle.walking.specs.Ready.{most-entries, Walkable}
+use Rattle.terms.specs.Needs.{FitLimits}
+use Rattle.walking.specs.Needs.{Walkable}
 use Rattle.walking.specs.Value.{subject-value}
 use Rattle.walking.specs.Walk.{place-parts, walk}
-use Rattle.store.proofs.StoreWords.{Agree, questions-agree}
+use Rattle.store.proofs.EntryAdded.{agree-added, used-added}
+use Rattle.store.proofs.StoreWords.{questions-agree}
 use Rattle.terms.proofs.Cases.{by-lt, by-eq}
-use Rattle.walking.proofs.AddedEntry.{with-entry-agrees, with-entry-used, walkable-added}
+use Rattle.walking.proofs.WalkableAdded.{Fine, walkable-added}
 
 -- The words left can be walked again, the words before are among them, and a handle that is the answer stands in them.
 pub record GoesOn (s : List ℕ) (o : Outcome Placed) : Type 0 where
@@ -67,30 +72,29 @@ module _ {s : List ℕ} {o : Outcome Placed} (next : ℕ → List ℕ → Outcom
       go Full e = then-on g (full-stays (g .walkable))
 
 -- ---- placing
-module _ (limits : Limits) (few : limits .entries ≤ most-entries) {s : List ℕ} (w : Walkable s) (k y n : ℕ)
-    (first : 1 ≤ k) (last : k ≤ question-count s) (yes-in : y < used s + leaves) (no-in : n < used s + leaves) where
-  add-goes : GoesOn s (add-entry limits s (an-entry k y n))
+module _ (limits : Limits) (fit : FitLimits limits) {s : List ℕ} (w : Walkable s) (e : Entry) (fine : Fine (question-count s) (used s) e) where
+  add-goes : GoesOn s (add-entry limits s e)
   unfolding add-entry at-handle
-  add-goes = by-lt (λ t. GoesOn s (cond t (outcome (At (used s + leaves)) (with-entry s (an-entry k y n))) (outcome Full s))) (used s) (room limits s)
+  add-goes = by-lt (λ t. GoesOn s (cond t (outcome (At (used s + leaves)) (with-entry s e)) (outcome Full s))) (used s) (room limits s)
       (λ l.
-      let fits : entries-start s + 3 * used s + 3 ≤ length s = omega (arith, w .used-in) in
-      let more = with-entry-used s (an-entry k y n) fits in
+      let fits : HasEntry s (used s) = omega (arith, w .used-in) in
+      let more = used-added s e fits in
       record {
-        walkable = walkable-added s k y n w fits (omega arith) first last yes-in no-in;
-        agrees = with-entry-agrees s (an-entry k y n);
+        walkable = walkable-added s e w fits (omega (arith, fit .entries-fit)) fine;
+        agrees = agree-added s e;
         grown = omega arith;
-        named = λ h e. let d : used s + leaves ≡ h = ap at-handle e in omega arith;
+        named = λ h z. let d : used s + leaves ≡ h = ap at-handle z in omega arith;
       })
       (λ _. full-stays w)
 
-  place-goes : GoesOn s (place-entry limits s (an-entry k y n))
+  place-goes : GoesOn s (place-entry limits s e)
   unfolding place-entry
-  place-goes = by-lt (λ t. GoesOn s (cond t (outcome (At (find-entry s (used s) (an-entry k y n) + leaves)) s) (add-entry limits s (an-entry k y n))))
-      (find-entry s (used s) (an-entry k y n)) (used s) (λ l. stays-at w _ (omega arith)) (λ _. add-goes)
+  place-goes = by-lt (λ t. GoesOn s (cond t (outcome (At (find-entry s (used s) e + leaves)) s) (add-entry limits s e)))
+      (find-entry s (used s) e) (used s) (λ l. stays-at w _ (omega arith)) (λ _. add-goes)
 
-  parts-go : GoesOn s (place-parts limits k y n s)
+  parts-go : GoesOn s (place-parts limits s e)
   unfolding place-parts
-  parts-go = by-eq (λ t. GoesOn s (cond t (outcome (At y) s) (place-entry limits s (an-entry k y n)))) y n (λ _. stays-at w y yes-in) (λ _. place-goes)
+  parts-go = by-eq (λ t. GoesOn s (cond t (outcome (At (e .yes)) s) (place-entry limits s e))) (e .yes) (e .no) (λ _. stays-at w (e .yes) (fine .yes-lower)) (λ _. place-goes)
 
 -- ---- the walk
 by-decision : (P : Decision → Type 0) → P Always → P Never → P Open → (d : Decision) → P d
@@ -101,33 +105,34 @@ by-decision P a n o Open = o
 leaf-goes : {s : List ℕ} → Walkable s → (h : ℕ) → h < leaves → GoesOn s (outcome (At h) s)
 leaf-goes w h l = stays-at w h (omega arith)
 
-module _ (limits : Limits) (few : limits .entries ≤ most-entries) (table : List ℕ) (subject : Subject) where
+module _ (limits : Limits) (fit : FitLimits limits) (source : List ℕ) (subject : Subject) where
   -- what follows the no part, and the yes part
   abbrev after-no : ℕ → ℕ → ℕ → List ℕ → Outcome Placed
-  after-no k y n s₂ = place-parts limits k y n s₂
+  after-no k y n s₂ = place-parts limits s₂ (entry-of k y n)
 
   abbrev after-yes : ℕ → ℕ → State → ℕ → List ℕ → Outcome Placed
-  after-yes left k st y s₁ = then-place (walk limits table subject left (k + 1) st s₁) (after-no k y)
+  after-yes left k st y s₁ = then-place (walk limits s₁ source subject left (k + 1) st) (after-no k y)
 
-  pub walk-goes : (left k : ℕ) (st : State) (s : List ℕ) → Walkable s → 1 ≤ k → k + left ≤ question-count s + 1 → GoesOn s (walk limits table subject left k st s)
+  pub walk-goes : (left k : ℕ) (st : State) (s : List ℕ) → Walkable s → 1 ≤ k → k + left ≤ question-count s + 1 → GoesOn s (walk limits s source subject left k st)
   unfolding walk
   walk-goes zero k st s w first last =
       by-decision (λ d. GoesOn s (elim d [ Always ↦ outcome (At 1) s | Never ↦ outcome (At 0) s | Open ↦ outcome (At 0) s ]))
-      (leaf-goes w 1 (omega arith)) (leaf-goes w 0 (omega arith)) (leaf-goes w 0 (omega arith)) (subject-value table subject s st)
+      (leaf-goes w 1 (omega arith)) (leaf-goes w 0 (omega arith)) (leaf-goes w 0 (omega arith)) (subject-value s source subject st)
   walk-goes (suc left) k st s w first last =
       let q = question s k in
-      let skipped : Outcome Placed = walk limits table subject left (k + 1) st s in
+      let skipped : Outcome Placed = walk limits s source subject left (k + 1) st in
       let skip-goes : GoesOn s skipped = walk-goes left (k + 1) st s w (omega arith) (omega arith) in
-      let yes-part : Outcome Placed = walk limits table subject left (k + 1) (yes-to st q) s in
+      let yes-part : Outcome Placed = walk limits s source subject left (k + 1) (yes-to st q) in
       let yes-goes : GoesOn s yes-part = walk-goes left (k + 1) (yes-to st q) s w (omega arith) (omega arith) in
       let s₁ = yes-part .words in
       let same₁ = questions-agree (yes-goes .agrees) in
-      let no-part : Outcome Placed = walk limits table subject left (k + 1) (no-to st q) s₁ in
+      let no-part : Outcome Placed = walk limits s₁ source subject left (k + 1) (no-to st q) in
       let no-goes : GoesOn s₁ no-part = walk-goes left (k + 1) (no-to st q) s₁ (yes-goes .walkable) (omega arith) (omega arith) in
       let same₂ = questions-agree (no-goes .agrees) in
       let asked : Outcome Placed = then-place yes-part (after-yes left k (no-to st q)) in
       let asked-goes : GoesOn s asked = then-goes (after-yes left k (no-to st q)) yes-goes (λ y ey. then-goes (after-no k y) no-goes (λ n en.
-      parts-go limits few (no-goes .walkable) k y n first (omega arith) (omega (arith, yes-goes .named y ey, no-goes .grown)) (no-goes .named n en))) in
+      parts-go limits fit (no-goes .walkable) (entry-of k y n)
+      (record { some = first; listed = omega arith; yes-lower = omega (arith, yes-goes .named y ey, no-goes .grown); no-lower = no-goes .named n en }))) in
       by-decision (λ d. GoesOn s (elim d [
         | Always ↦ outcome (At 1) s
         | Never ↦ outcome (At 0) s
@@ -135,4 +140,4 @@ module _ (limits : Limits) (few : limits .entries ≤ most-entries) (table : Lis
       ]))
       (leaf-goes w 1 (omega arith)) (leaf-goes w 0 (omega arith))
       (by-decision (λ d. GoesOn s (elim d [ Always ↦ skipped | Never ↦ skipped | Open ↦ asked ])) skip-goes skip-goes asked-goes (decide st q))
-      (subject-value table subject s st)
+      (subject-value s source subject st)

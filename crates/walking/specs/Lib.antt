@@ -1,4 +1,3 @@
 pub mod Value
 pub mod Walk
-pub mod Ready
-pub mod Parts
+pub mod Needs

@@ -1,35 +1,31 @@
 // What the facts say of a handle.
 ghost use mathlib.Core.Path.{_≡_};
-ghost use Rattle.facts.specs.Record as facts;
-ghost use Rattle.walking.specs.Ready.{Follows};
+ghost use Rattle.facts.specs.Needs as facts;
+ghost use Rattle.walking.specs.Needs.{CanFollow};
 ghost use Rattle.walking.specs.Value as spec;
-use crate::entries::no_of;
-use crate::entries::question_at;
-use crate::entries::question_of;
-use crate::entries::wide;
-use crate::entries::yes_of;
 use facts::Decision;
 use facts::Facts;
 use facts::decision_of;
-
-// The handles of the leaves never and always come before those of the entries.
-pub const LEAVES: u32 = 2;
+use store::LEAVES;
+use store::entry_of;
+use store::question_at;
+use store::wide;
 
 // The value of a handle: its entries are followed while their questions are decided.
 pub fn handle_value(s: &[u32], handle: u32, f: Facts) -> Decision
-    requires { ⌜ Follows (now s) handle f ⌝ }
+    requires { ⌜ CanFollow (now s) handle f ⌝ }
     ensures { λ r. ⌜ r ≡ spec.handle-value (now (s .entry)) handle (facts.state f) ⌝ }
 {
-    let mut h = handle;
+    let mut h = wide(handle);
     while LEAVES <= h {
-        let i = wide(h - LEAVES);
-        let decision = decision_of(f, question_at(s, question_of(s, i)));
+        let e = entry_of(s, h - LEAVES);
+        let decision = decision_of(f, question_at(s, wide(e.question)));
         match decision {
             Decision::Always => {
-                h = yes_of(s, i);
+                h = wide(e.yes);
             }
             Decision::Never => {
-                h = no_of(s, i);
+                h = wide(e.no);
             }
             Decision::Open => {
                 return Decision::Open;

@@ -1,5 +1,4 @@
 // The walk that finishes a diagram and adds it to a store.
-mod entries;
 mod handles;
 mod placing;
 mod recursion;
@@ -8,7 +7,6 @@ mod subject;
 mod truths;
 mod valuing;
 
-pub use entries::question_at;
 pub use handles::handle_value;
 pub use placing::place_entry;
 pub use placing::place_parts;

@@ -1,30 +1,26 @@
 // What the facts say of a rule table.
 ghost use mathlib.Core.Path.{_≡_};
 ghost use Prim.Native.Nat.{_<_};
-ghost use lib.ListN.{length, getD};
-ghost use Rattle.facts.specs.Record as facts;
-ghost use Rattle.tables.specs.Rows.{row};
-ghost use Rattle.walking.specs.Ready.{GoodTable, AsksRow, AsksTable};
-ghost use Rattle.tables.specs.WriteBack.{most-rows};
-ghost use Rattle.walking.specs.Parts.{said, value-number};
+ghost use Rattle.facts.specs.Needs as facts;
+ghost use Rattle.tables.specs.Decoding.{LowerPart};
+ghost use Rattle.tables.specs.Rows.{most-rows, row};
+ghost use Rattle.walking.specs.Needs.{said, value-number, AsksRow, AsksTable};
 ghost use Rattle.walking.specs.Value as spec;
-use crate::entries::wide;
-use crate::truths::and_value;
 use crate::truths::choose_value;
-use crate::truths::not_value;
+use crate::truths::leaf_value;
 use facts::Decision;
 use facts::Facts;
 use facts::decision_of;
-use terms::Equation;
-use terms::term_of;
-
-// The most rows of a table, and the words of a row.
-pub const ROWS: usize = 256;
-
-const ROW_LENGTH: usize = 4;
+use store::wide;
+use tables::MOST_ROWS;
+use tables::Part;
+use tables::ROW_LENGTH;
+use tables::Shape;
+use tables::decode;
+use tables::row_at;
 
 // What is said of each row, as a number.
-pub type Values = [u8; ROWS];
+pub type Values = [u8; MOST_ROWS];
 
 // The number of a value.
 fn value_number(d: Decision) -> u8
@@ -52,29 +48,35 @@ fn said_of(values: &Values, i: u32) -> Decision
     Decision::Open
 }
 
+// What is said of a part.
+fn part_value(part: Part, before: &Values) -> Decision
+    requires { ⌜ LowerPart most-rows part ⌝ }
+    ensures { λ r. ⌜ r ≡ spec.part-value (said (now (before .entry))) part ⌝ }
+{
+    match part {
+        Part::Leaf(b) => leaf_value(b),
+        Part::Row(i) => said_of(before, i),
+    }
+}
+
 // The value of the i-th row, given what is said of the rows before it.
 fn row_value(table: &[u32], i: usize, before: &Values, f: Facts) -> Decision
     requires { ⌜ AsksRow (now table) i f ⌝ }
     ensures { λ r. ⌜ r ≡ spec.row-value (facts.state f) (said (now (before .entry))) (row (now (table .entry)) i) ⌝ }
 {
-    let at = ROW_LENGTH * i;
-    let kind = table[at];
-    let a = table[at + 1];
-    let b = table[at + 2];
-    let c = table[at + 3];
-    match kind {
-        1 => Decision::Always,
-        2 => decision_of(
-            f,
-            Equation {
-                left: term_of(a),
-                right: term_of(b),
-            },
+    let shape = decode(row_at(table, i));
+    match shape {
+        Shape::Leaf(b) => leaf_value(b),
+        Shape::Equation(e) => decision_of(f, e),
+        Shape::Choice {
+            first,
+            second,
+            third,
+        } => choose_value(
+            part_value(first, before),
+            part_value(second, before),
+            part_value(third, before),
         ),
-        3 => not_value(said_of(before, a)),
-        4 => and_value(said_of(before, a), said_of(before, b)),
-        5 => choose_value(said_of(before, a), said_of(before, b), said_of(before, c)),
-        _ => Decision::Never,
     }
 }
 
@@ -83,7 +85,7 @@ pub fn table_value(table: &[u32], f: Facts) -> Decision
     requires { ⌜ AsksTable (now table) f ⌝ }
     ensures { λ r. ⌜ r ≡ spec.table-value (now (table .entry)) (facts.state f) ⌝ }
 {
-    let mut values = [0u8; ROWS];
+    let mut values = [0u8; MOST_ROWS];
     let rows = table.len() / ROW_LENGTH;
     let mut i: usize = 0;
     while i < rows {

@@ -3,30 +3,11 @@ ghost use mathlib.Core.Path.{_≡_};
 ghost use Rattle.walking.specs.Value as spec;
 use facts::Decision;
 
-// Not a.
-pub fn not_value(a: Decision) -> Decision
-    ensures { λ r. ⌜ r ≡ spec.not-value a ⌝ }
+// The value of a leaf.
+pub fn leaf_value(b: bool) -> Decision
+    ensures { λ r. ⌜ r ≡ spec.leaf-value b ⌝ }
 {
-    match a {
-        Decision::Always => Decision::Never,
-        Decision::Never => Decision::Always,
-        Decision::Open => Decision::Open,
-    }
-}
-
-// a and b.
-pub fn and_value(a: Decision, b: Decision) -> Decision
-    ensures { λ r. ⌜ r ≡ spec.and-value a b ⌝ }
-{
-    match a {
-        Decision::Always => b,
-        Decision::Never => Decision::Never,
-        Decision::Open => match b {
-            Decision::Always => Decision::Open,
-            Decision::Never => Decision::Never,
-            Decision::Open => Decision::Open,
-        },
-    }
+    if b { Decision::Always } else { Decision::Never }
 }
 
 // What a and b have in common.

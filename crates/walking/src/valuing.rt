@@ -1,7 +1,7 @@
 // What the facts say of the subject of a walk.
 ghost use mathlib.Core.Path.{_≡_};
-ghost use Rattle.facts.specs.Record as facts;
-ghost use Rattle.walking.specs.Ready.{HasValue};
+ghost use Rattle.facts.specs.Needs as facts;
+ghost use Rattle.walking.specs.Needs.{HasValue};
 ghost use Rattle.walking.specs.Value as spec;
 use crate::handles::handle_value;
 use crate::rows::table_value;
@@ -11,12 +11,12 @@ use facts::Decision;
 use facts::Facts;
 
 // The value of a table, or of three handles of the store.
-pub fn value(table: &[u32], subject: Subject, s: &[u32], f: Facts) -> Decision
-    requires { ⌜ HasValue (now table) subject (now s) f ⌝ }
-    ensures { λ r. ⌜ r ≡ spec.subject-value (now (table .entry)) subject (now (s .entry)) (facts.state f) ⌝ }
+pub fn value(s: &[u32], source: &[u32], subject: Subject, f: Facts) -> Decision
+    requires { ⌜ HasValue (now s) (now source) subject f ⌝ }
+    ensures { λ r. ⌜ r ≡ spec.subject-value (now (s .entry)) (now (source .entry)) subject (facts.state f) ⌝ }
 {
     match subject {
-        Subject::Table => table_value(table, f),
+        Subject::Table => table_value(source, f),
         Subject::Choice {
             first,
             second,

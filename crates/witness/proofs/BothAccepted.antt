@@ -11,7 +11,7 @@ use Rattle.index.specs.Entries.{first, is-entry}
 use Rattle.operations.specs.Operations.{added}
 use Rattle.operations.specs.Operations as operation
 use Rattle.operations.specs.Table.{on-list, well-formed, equation-fault, row-fault, rows-fault, table-fault}
-use Rattle.store.specs.Limits.{store-limits}
+use Rattle.terms.specs.Limits.{store-limits}
 use Rattle.store.specs.Meaning.{next, follow}
 use Rattle.store.specs.Open.{question-fault, list-fault, opening, opened-words, open-store}
 use Rattle.store.specs.Outcome.{outcome}

@@ -13,7 +13,7 @@ use Rattle.operations.specs.declared.answer.Built.the-variants.{Handle, NotSoun
 use Rattle.operations.specs.Answer.{built-number}
 use Rattle.operations.specs.Operations as operation
 use Rattle.store.proofs.opening.Opened as opened
-use Rattle.store.specs.declared.limits.Limits.{Limits}
+use Rattle.terms.specs.declared.limits.Limits.{Limits}
 use Rattle.store.specs.declared.opening.Opened.{Opened}
 use Rattle.store.specs.declared.opening.Opened.the-variants.{Accepted, TooManyFields, OddList, TooManyQuestions, OutOfLimits, NotSimplified, NotAbove, TooShort}
 use Rattle.store.specs.Open.{open-number, open-store}

@@ -7,7 +7,7 @@ use lib.ListN.{length}
 use Rattle.operations.specs.declared.answer.Built.{Built}
 use Rattle.operations.specs.declared.answer.Built.the-variants.{Handle, NotSound, NoHandle, NoWords, NotRows, TooManyRows, BadRow, OutOfLimits as Outside, NotListed, NoRoom}
 use Rattle.operations.specs.Handles.{Call, build, join, answer-to, Rule, Pair, pair, first-ledger, rule-of, rule-of-call, enter, Books, after, run, In, newest, older}
-use Rattle.store.specs.declared.limits.Limits.{Limits}
+use Rattle.terms.specs.declared.limits.Limits.{Limits}
 use Rattle.store.specs.declared.opening.Opened.{Opened}
 use Rattle.store.specs.declared.opening.Opened.the-variants.{Accepted, TooManyFields, OddList, TooManyQuestions, OutOfLimits, NotSimplified, NotAbove, TooShort}
 use Rattle.store.specs.Open.{opening, opened, opened-words, open-store}

@@ -7,7 +7,7 @@ use lib.Dec.{eqb}
 use Rattle.operations.specs.declared.answer.Built.{Built}
 use Rattle.operations.specs.Answer.{built-number, built-result}
 use Rattle.operations.specs.Operations as operation
-use Rattle.store.specs.declared.limits.Limits.{Limits}
+use Rattle.terms.specs.declared.limits.Limits.{Limits}
 use Rattle.store.specs.declared.opening.Opened.{Opened}
 use Rattle.store.specs.Open.{open-number, open-store}
 use Rattle.store.specs.Outcome.{Outcome, outcome}

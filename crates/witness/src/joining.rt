@@ -1,6 +1,6 @@
 // Joining two rules in both orders.
 ghost use mathlib.Core.Path.{_≡_};
-ghost use Rattle.store.specs.Limits as limit;
+ghost use Rattle.terms.specs.Limits as limit;
 ghost use Rattle.store.specs.Outcome.{outcome};
 ghost use Rattle.witness.specs.Joined.{SameHandles, joined-both-ways};
 use building::build;

@@ -1,13 +1,13 @@
 -- `load` meets its contract: after each turn the entries passed are in the index and no two of them are equal.
-use Prim.Native.Nat.{_≤_, _-_}
 use borrow.Author.Needs.{needs}
-use Rattle.index.specs.Chains.{Ready}
-use Rattle.index.proofs.IndexLaws.{ready-none, ready-more, loaded-no, loaded-yes}
+use Prim.Native.Nat.{_≤_, _-_}
+use Rattle.index.specs.Needs.{Searchable}
+use Rattle.index.proofs.IndexLaws.{entry-in, ready-none, ready-more, loaded-no, loaded-yes}
 use Rattle.index.proofs.load.Statement.{statement}
 use Rattle.index.proofs.load.Tie as tie
 
 abbrev Inv-loop : tie.InvT-loop
-Inv-loop s start used lasts₀ links₀ i₀ lasts links i = (i ≤ used) × (Ready s start i lasts links)
+Inv-loop s start used lasts₀ links₀ i₀ lasts links i = (i ≤ used) × (Searchable s start i lasts links)
 
 abbrev μ-loop : tie.MeasureT-loop
 μ-loop s start used lasts₀ links₀ i₀ lasts links i = used - i
@@ -15,35 +15,8 @@ abbrev μ-loop : tie.MeasureT-loop
 loop-holds : tie.Need-loop-holds Inv-loop μ-loop
 loop-holds c = search (needs, ready-none)
 
-mul-at : tie.Need-mul-at Inv-loop μ-loop
-mul-at c = search needs
-
-add-at : tie.Need-add-at Inv-loop μ-loop
-add-at c = search needs
-
-mul-find : tie.Need-mul-find Inv-loop μ-loop
-mul-find c = search needs
-
-shared-slice-read-find : tie.Need-shared-slice-read-find Inv-loop μ-loop
-shared-slice-read-find c = search needs
-
-add-find : tie.Need-add-find Inv-loop μ-loop
-add-find c = search needs
-
-mul-find-2 : tie.Need-mul-find-2 Inv-loop μ-loop
-mul-find-2 c = search needs
-
-shared-slice-read-find-2 : tie.Need-shared-slice-read-find-2 Inv-loop μ-loop
-shared-slice-read-find-2 c = search needs
-
-add-find-2 : tie.Need-add-find-2 Inv-loop μ-loop
-add-find-2 c = search needs
-
-mul-find-3 : tie.Need-mul-find-3 Inv-loop μ-loop
-mul-find-3 c = search needs
-
-shared-slice-read-find-3 : tie.Need-shared-slice-read-find-3 Inv-loop μ-loop
-shared-slice-read-find-3 c = search needs
+entry-from-requires : tie.Need-entry-from-requires Inv-loop μ-loop
+entry-from-requires c κs = search (needs, entry-in)
 
 find-requires : tie.Need-find-requires Inv-loop μ-loop
 find-requires c κs = search needs
@@ -64,10 +37,12 @@ loop-again : tie.Need-loop-again Inv-loop μ-loop
 loop-again c =
     let passed = c .before .before .before in
     let found = passed .before in
-    let turn = found .before .before .before .before .before .before in
+    let read = found .before .before .before in
+    let turn = read .before in
     let head = turn .before in (
       search needs,
-      ready-more _ (head .before .before .pre .0) _ (found .find .ensures) (turn .loop-test .taken) (head .loop .inv .1) (passed .if1 .left) (c .put .ensures),
+      ready-more _ (head .before .before .pre .0) _ (read .entry-from .ensures) (found .find .ensures) (turn .loop-test .taken) (head .loop .inv .1) (passed .if1 .left)
+          (c .put .ensures),
     )
 
 returns-2 : tie.Need-returns-2 Inv-loop μ-loop
@@ -80,16 +55,7 @@ load-spec =
     Inv-loop
     μ-loop
     loop-holds
-    mul-at
-    add-at
-    mul-find
-    shared-slice-read-find
-    add-find
-    mul-find-2
-    shared-slice-read-find-2
-    add-find-2
-    mul-find-3
-    shared-slice-read-find-3
+    entry-from-requires
     find-requires
     returns
     put-requires

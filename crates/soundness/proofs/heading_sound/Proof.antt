@@ -7,14 +7,14 @@ use Rattle.soundness.proofs.heading_sound.Tie as tie
 returns : tie.Need-returns
 returns c = search (needs, heading-short)
 
-shared-slice-read-n : tie.Need-shared-slice-read-n
-shared-slice-read-n c = search needs
+field-count-requires : tie.Need-field-count-requires
+field-count-requires c κs = search needs
 
 returns-2 : tie.Need-returns-2
 returns-2 c = search (needs, too-many-fields)
 
-shared-slice-read-if3 : tie.Need-shared-slice-read-if3
-shared-slice-read-if3 c = search needs
+question-count-requires : tie.Need-question-count-requires
+question-count-requires c κs = search needs
 
 returns-3 : tie.Need-returns-3
 returns-3 c = search (needs, too-many-questions)
@@ -24,6 +24,9 @@ entries-start-requires c κs = search needs
 
 returns-4 : tie.Need-returns-4
 returns-4 c = search (needs, list-cut)
+
+terms-within-requires : tie.Need-terms-within-requires
+terms-within-requires c κs = search needs
 
 mul-list-fault : tie.Need-mul-list-fault
 mul-list-fault c = search needs
@@ -51,12 +54,13 @@ heading-sound-spec =
     tie.close
     (tie.spec
     returns
-    shared-slice-read-n
+    field-count-requires
     returns-2
-    shared-slice-read-if3
+    question-count-requires
     returns-3
     entries-start-requires
     returns-4
+    terms-within-requires
     mul-list-fault
     sub-list-fault
     part-list-fault-start

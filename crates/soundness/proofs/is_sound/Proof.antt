@@ -1,23 +1,23 @@
 -- `is_sound` meets its contract: the heading, then the room and then the rest decide, and each is tested where the one before it holds.
 use borrow.Author.Needs.{needs}
-use Rattle.soundness.proofs.SoundWays.{heading-whole, start-within, room-fits, by-body, room-fails, heading-fails}
+use Rattle.soundness.proofs.SoundWays.{heading-whole, list-within, room-fits, by-body, room-fails, heading-fails}
 use Rattle.soundness.proofs.is_sound.Statement.{statement}
 use Rattle.soundness.proofs.is_sound.Tie as tie
 
 heading-sound-requires : tie.Need-heading-sound-requires
 heading-sound-requires c κs = search needs
 
-entries-start-requires : tie.Need-entries-start-requires
-entries-start-requires c κs = search (needs, heading-whole)
-
-shared-slice-read-wide : tie.Need-shared-slice-read-wide
-shared-slice-read-wide c = search (needs, heading-whole)
+used-requires : tie.Need-used-requires
+used-requires c κs = search (needs, heading-whole)
 
 wide-requires : tie.Need-wide-requires
 wide-requires c κs = search needs
 
-in-room-requires : tie.Need-in-room-requires
-in-room-requires c κs = search (needs, start-within)
+room-requires : tie.Need-room-requires
+room-requires c κs = search (needs, list-within)
+
+entries-start-requires : tie.Need-entries-start-requires
+entries-start-requires c κs = search (needs, heading-whole)
 
 body-sound-requires : tie.Need-body-sound-requires
 body-sound-requires c κs = search (needs, room-fits)
@@ -36,10 +36,10 @@ is-sound-spec =
     tie.close
     (tie.spec
     heading-sound-requires
-    entries-start-requires
-    shared-slice-read-wide
+    used-requires
     wide-requires
-    in-room-requires
+    room-requires
+    entries-start-requires
     body-sound-requires
     returns
     returns-2

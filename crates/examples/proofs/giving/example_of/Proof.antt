@@ -1,6 +1,6 @@
--- `example_of` meets its contract: it is `example_within` at the limits of every store.
+-- `example_of` meets its contract: document 01's limits fit.
 use borrow.Author.Needs.{needs}
-use Rattle.verdicts.proofs.VerdictWays.{at-limits, roomy-limits}
+use Rattle.terms.proofs.LimitsFit.{limits-fit}
 use Rattle.examples.proofs.giving.example_of.Statement.{statement}
 use Rattle.examples.proofs.giving.example_of.Tie as tie
 
@@ -8,7 +8,7 @@ limits-of-store-requires : tie.Need-limits-of-store-requires
 limits-of-store-requires c κs = search needs
 
 example-within-requires : tie.Need-example-within-requires
-example-within-requires c κs = (search (needs, at-limits), search (needs, roomy-limits))
+example-within-requires c κs = search (needs, limits-fit)
 
 same-length : tie.Need-same-length
 same-length c = search needs

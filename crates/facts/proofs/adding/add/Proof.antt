@@ -39,7 +39,7 @@ use Rattle.terms.specs.declared.term.Equation.{Equation}
 use Rattle.terms.proofs.term.Equation as E
 use Rattle.terms.proofs.term.Equation.Laws as E′
 use Rattle.facts.specs.declared.record.Facts.{Facts}
-use Rattle.facts.specs.Record.{CanAdd}
+use Rattle.facts.specs.Needs.{CanAddNo}
 use Rattle.facts.proofs.RecordLent.{mach, mach-q, Good, Good-q, Added}
 use Rattle.facts.proofs.record.Facts as T
 use Rattle.facts.proofs.record.Facts.Laws as T′
@@ -82,7 +82,7 @@ module _ {M : Type 1} (𝓤 : URA M) (H : Heap 𝓤) (A : Atoms 𝓤) (W : Given
   abbrev to-with : With 𝓤 H A at-mem run .Ghost
   to-with = ((tt, tt, tt, (h, (e, tt)), (mach h ∷ [], (mach-q e ∷ [], tt))), tt)
 
-  goes-with : CanAdd h e → ent 𝓤 (sem 𝓤 H A (T.the-row .own h (mach h ∷ []))) (With 𝓤 H A at-mem run .pre to-with)
+  goes-with : CanAddNo h e → ent 𝓤 (sem 𝓤 H A (T.the-row .own h (mach h ∷ []))) (With 𝓤 H A at-mem run .pre to-with)
   goes-with can =
       qed W (‵ (T.the-row .own h (mach h ∷ [])) ∷ []) ∵ says ! can $ nothing ! $ owned ! E.the-row (Is E.the-row) (LL.makes E.the-type E′.the-plain 𝓤 H A) e _ good-q $ fjoin ! $
       move ! (1 ∷ 0 ∷ []) $ fjoin ! $ nothing ! $ done !
@@ -100,7 +100,7 @@ module _ {M : Type 1} (𝓤 : URA M) (H : Heap 𝓤) (A : Atoms 𝓤) (W : Given
   made r w is = subst (λ (vs : List Val). Is T.the-row r vs) (LL.tells T.the-type T′.the-laws r _ is) is
 
   module _ (C : Calls 𝓤 H) (Λ : Loops 𝓤 H) (fm : FmC 𝓤 H (W .laws) C) (known : Triple 𝓤 (C #with-no) (With 𝓤 H A at-mem run)) where
-    walk : CanAdd h e → ent 𝓤 (onEntry 𝓤 H A f.signature (κ, tt) (q, tt) x at) (WpFn 𝓤 H C Λ code.function (vptr b o ∷ mach-q e ∷ []) Post)
+    walk : CanAddNo h e → ent 𝓤 (onEntry 𝓤 H A f.signature (κ, tt) (q, tt) x at) (WpFn 𝓤 H C Λ code.function (vptr b o ∷ mach-q e ∷ []) Post)
     walk can =
         qed W ((‵ (flft κ q) ⊛ ‵ ftrue) ∷ ‵ (owns (MutRef (named 0) κ T.the-row ∷ E.the-row ∷ []) x at) ∷ []) ∵ split ! $ move ! (2 ∷ []) $ fsplit ! $ fsplit3 ! $ drop ! $ move ! (0 ∷ 1 ∷ 3 ∷ []) $
         -- [obs; the borrow; the token; what q owns; true]
@@ -130,7 +130,7 @@ module _ {M : Type 1} (𝓤 : URA M) (H : Heap 𝓤) (A : Atoms 𝓤) (W : Given
 module _ {M : Type 1} (𝓤 : URA M) (H : Heap 𝓤) (A : Atoms 𝓤) (W : Given 𝓤 H A) (at-mem : Memory → SProp 𝓤) (run : Routine → Fun 𝓤) where
   add-walks : (C : Calls 𝓤 H) (Λ : Loops 𝓤 H) → FmC 𝓤 H (W .laws) C → Triple 𝓤 (C #with-no) (With 𝓤 H A at-mem run) → Walks 𝓤 H A f.ended stayed (WpFn 𝓤 H C Λ code.function) (f.clauses 𝓤 H A at-mem run)
   add-walks C Λ fm known = walked 𝓤 H A f.ended stayed (f.clauses 𝓤 H A at-mem run) (WpFn 𝓤 H C Λ code.function) (λ κs. (ptr-vals, (LL.vals E.the-type E′.the-laws, tt))) (λ κs. (mut-tells (named 0) (κs .0) T.the-row, (LL.tells E.the-type E′.the-laws, tt)))
-      (λ κs qs bounds a g are. needs 𝓤 (CanAdd (a .0 .now) (a .1 .0)) _ (walk 𝓤 H A W at-mem run (κs .0) (qs .0) (a .0 .ptr .0) (a .0 .ptr .1) (a .0 .name) (a .0 .now) (a .1 .0) (are .1 .0) C Λ fm known))
+      (λ κs qs bounds a g are. needs 𝓤 (CanAddNo (a .0 .now) (a .1 .0)) _ (walk 𝓤 H A W at-mem run (κs .0) (qs .0) (a .0 .ptr .0) (a .0 .ptr .1) (a .0 .name) (a .0 .now) (a .1 .0) (are .1 .0) C Λ fm known))
 
 add-meets : {M : Type 1} (𝓤 : URA M) (H : Heap 𝓤) (A : Atoms 𝓤) → Given 𝓤 H A → (at-mem : Memory → SProp 𝓤) (run : Routine → Fun 𝓤) (𝓣 : Tables 𝓤 H) → Triple 𝓤 (𝓣 .C #with-no) (With 𝓤 H A at-mem run)
     → Meets 𝓤 H A f.signature (WpFn 𝓤 H (𝓣 .C) (𝓣 .Λ) code.function) (f.spec 𝓤 H A at-mem run)

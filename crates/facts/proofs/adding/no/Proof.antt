@@ -34,7 +34,8 @@ use Rattle.terms.specs.declared.term.Equation.{Equation}
 use Rattle.terms.proofs.term.Equation as E
 use Rattle.terms.proofs.term.Equation.Laws as E′
 use Rattle.facts.specs.declared.record.Facts.{Facts}
-use Rattle.facts.specs.Record.{Small, most-steps, most-noes, CanAdd}
+use Rattle.facts.specs.Needs.{Small, most-noes, CanAddNo}
+use Rattle.terms.specs.Limits.{most-count}
 use Rattle.facts.proofs.RecordLent.{mach, mach-q, Good, Good-q, Added}
 use Rattle.facts.proofs.AddOnLocal.{Add, to-add, lend-to, back-from}
 use Rattle.facts.proofs.record.Facts as T
@@ -74,7 +75,7 @@ module _ {M : Type 1} (𝓤 : URA M) (H : Heap 𝓤) (A : Atoms 𝓤) (W : Given
       owned ! T.the-row (Is T.the-row) (LL.makes T.the-type T′.the-plain 𝓤 H A) h _ good $ fjoin ! $ nothing ! $ done !
 
   module _ (C : Calls 𝓤 H) (Λ : Loops 𝓤 H) (fm : FmC 𝓤 H (W .laws) C) (known : Triple 𝓤 (C #add) (Add 𝓤 H A at-mem run)) where
-    walk : CanAdd h e → ent 𝓤 (onEntry 𝓤 H A f.signature tt tt x at) (WpFn 𝓤 H C Λ code.function (mach h ∷ mach-q e ∷ []) Post)
+    walk : CanAddNo h e → ent 𝓤 (onEntry 𝓤 H A f.signature tt tt x at) (WpFn 𝓤 H C Λ code.function (mach h ∷ mach-q e ∷ []) Post)
     walk can =
         qed W (‵ ftrue ∷ ‵ (owns (T.the-row ∷ E.the-row ∷ []) x at) ∷ []) ∵ keep ! [] $ enter ! C Λ code.function (mach h ∷ mach-q e ∷ []) _ $
         alloc1 ! (λ l₀. alloc1 ! (λ l₁. alloc1 ! (λ l₂. alloc1 ! (λ l₃. alloc1 ! (λ l₄. alloc1 ! (λ l₅. alloc0 ! $ params1 ! $
@@ -96,7 +97,7 @@ module _ {M : Type 1} (𝓤 : URA M) (H : Heap 𝓤) (A : Atoms 𝓤) (W : Given
 module _ {M : Type 1} (𝓤 : URA M) (H : Heap 𝓤) (A : Atoms 𝓤) (W : Given 𝓤 H A) (at-mem : Memory → SProp 𝓤) (run : Routine → Fun 𝓤) where
   no-walks : (C : Calls 𝓤 H) (Λ : Loops 𝓤 H) → FmC 𝓤 H (W .laws) C → Triple 𝓤 (C #add) (Add 𝓤 H A at-mem run) → Walks 𝓤 H A f.ended stayed (WpFn 𝓤 H C Λ code.function) (f.clauses 𝓤 H A at-mem run)
   no-walks C Λ fm known = walked 𝓤 H A f.ended stayed (f.clauses 𝓤 H A at-mem run) (WpFn 𝓤 H C Λ code.function) (λ κs. (LL.vals T.the-type T′.the-laws, (LL.vals E.the-type E′.the-laws, tt))) (λ κs. (LL.tells T.the-type T′.the-laws, (LL.tells E.the-type E′.the-laws, tt)))
-      (λ κs qs bounds a g are. needs-both 𝓤 (Small most-steps (a .1 .0)) (a .0 .noes < most-noes) _
+      (λ κs qs bounds a g are. needs-both 𝓤 (Small most-count (a .1 .0)) (a .0 .noes < most-noes) _
       (λ small room. walk 𝓤 H A W at-mem run (a .0) (a .1 .0) (are .0) (are .1 .0) C Λ fm known record { small = small; room = room }))
 
 no-meets : {M : Type 1} (𝓤 : URA M) (H : Heap 𝓤) (A : Atoms 𝓤) → Given 𝓤 H A → (at-mem : Memory → SProp 𝓤) (run : Routine → Fun 𝓤) (𝓣 : Tables 𝓤 H) → Triple 𝓤 (𝓣 .C #add) (Add 𝓤 H A at-mem run)

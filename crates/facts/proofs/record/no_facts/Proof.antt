@@ -3,6 +3,7 @@ use Prim.Native.Nat.{_-_}
 use mathlib.Core.Path.{refl}
 use native.Mathlib.Omega.{arith}
 use borrow.Author.Needs.{needs}
+use Rattle.facts.specs.Needs.{field-places}
 use Rattle.facts.proofs.Numbered.{Numbered, number-next, numbered-start}
 use Rattle.facts.proofs.record.no_facts.Statement.{statement}
 use Rattle.facts.proofs.record.no_facts.Tie as tie
@@ -11,7 +12,7 @@ abbrev Inv-loop : tie.InvT-loop
 Inv-loop f₀ i₀ f i = Numbered i f
 
 abbrev μ-loop : tie.MeasureT-loop
-μ-loop f₀ i₀ f i = 17 - i
+μ-loop f₀ i₀ f i = field-places - i
 
 loop-holds : tie.Need-loop-holds Inv-loop μ-loop
 loop-holds c = record { up-to = search needs; size = refl; own = λ k h. absurd (omega (arith, h)); offsets = refl; noes-none = refl }

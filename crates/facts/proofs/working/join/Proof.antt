@@ -3,6 +3,7 @@ use Prim.Native.Nat.{_-_}
 use mathlib.Core.Path.{sym, subst, _∙_}
 use mathlib.Core.Logic.{inl, inr}
 use borrow.Author.Needs.{needs}
+use Rattle.facts.specs.Needs.{field-places}
 use Rattle.facts.proofs.Joining.{Joining, joining-none, joining-raise, joining-moved, joining-stayed, joining-all}
 use Rattle.facts.proofs.working.join.Statement.{statement}
 use Rattle.facts.proofs.working.join.Tie as tie
@@ -11,7 +12,7 @@ abbrev Inv-loop : tie.InvT-loop
 Inv-loop into from by f₀ i₀ f i = Joining f₀ into from by i f
 
 abbrev μ-loop : tie.MeasureT-loop
-μ-loop into from by f₀ i₀ f i = 17 - i
+μ-loop into from by f₀ i₀ f i = field-places - i
 
 loop-holds : tie.Need-loop-holds Inv-loop μ-loop
 loop-holds c = search (needs, joining-none)

@@ -25,6 +25,9 @@ list-fault-requires c κs = search needs
 enum-told : tie.Need-enum-told
 enum-told c = search needs
 
+enum-told-2 : tie.Need-enum-told-2
+enum-told-2 c = search needs
+
 returns-4 : tie.Need-returns-4
 returns-4 c = search (needs, list-refused)
 
@@ -48,6 +51,7 @@ first-fault-spec =
     terms-within-requires
     list-fault-requires
     enum-told
+    enum-told-2
     returns-4
     add-if4
     returns-5

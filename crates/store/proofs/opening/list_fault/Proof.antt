@@ -3,13 +3,14 @@ use Prim.Native.Nat.{_≤_, _-_, _/_}
 use mathlib.Core.Path.{_≡_}
 use borrow.Author.Needs.{needs}
 use lib.ListN.{length}
+use Rattle.terms.specs.Order.{fields-first}
 use Rattle.store.specs.Open.{list-fault}
 use Rattle.store.proofs.OpenWays.{list-start, list-end, list-next, list-stop}
 use Rattle.store.proofs.opening.list_fault.Statement.{statement}
 use Rattle.store.proofs.opening.list_fault.Tie as tie
 
 abbrev Inv-loop : tie.InvT-loop
-Inv-loop limits list k₀ k = (k ≤ length list / 2) × (list-fault limits list (length list / 2) 0 ≡ list-fault limits list (length list / 2 - k) k)
+Inv-loop limits list k₀ k = (k ≤ length list / 2) × (list-fault fields-first limits list (length list / 2) 0 ≡ list-fault fields-first limits list (length list / 2 - k) k)
 
 abbrev μ-loop : tie.MeasureT-loop
 μ-loop limits list k₀ k = length list / 2 - k
@@ -22,6 +23,9 @@ question-fault-requires c κs = search needs
 
 enum-told : tie.Need-enum-told Inv-loop μ-loop
 enum-told c = search needs
+
+enum-told-2 : tie.Need-enum-told-2 Inv-loop μ-loop
+enum-told-2 c = search needs
 
 returns : tie.Need-returns Inv-loop μ-loop
 returns c = search (needs, list-stop)
@@ -47,6 +51,7 @@ list-fault-spec =
     loop-holds
     question-fault-requires
     enum-told
+    enum-told-2
     returns
     add-k
     loop-less

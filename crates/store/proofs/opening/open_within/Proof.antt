@@ -11,6 +11,9 @@ first-fault-requires c κs = search needs
 enum-told : tie.Need-enum-told
 enum-told c = search needs
 
+enum-told-2 : tie.Need-enum-told-2
+enum-told-2 c = search needs
+
 returns : tie.Need-returns
 returns c = search (needs, stays)
 
@@ -26,4 +29,4 @@ returns-2 c = search (needs, opens)
 pub open-within-spec : {M : Type 1} → statement M
 open-within-spec =
     tie.close
-    (tie.spec first-fault-requires enum-told returns write-opened-requires same-length returns-2)
+    (tie.spec first-fault-requires enum-told enum-told-2 returns write-opened-requires same-length returns-2)

@@ -1,6 +1,6 @@
--- `verdict_of` meets its contract: it is `verdict_within` at the limits of every store.
+-- `verdict_of` meets its contract: document 01's limits fit.
 use borrow.Author.Needs.{needs}
-use Rattle.verdicts.proofs.VerdictWays.{at-limits, roomy-limits}
+use Rattle.terms.proofs.LimitsFit.{limits-fit}
 use Rattle.verdicts.proofs.deciding.verdict_of.Statement.{statement}
 use Rattle.verdicts.proofs.deciding.verdict_of.Tie as tie
 
@@ -8,7 +8,7 @@ limits-of-store-requires : tie.Need-limits-of-store-requires
 limits-of-store-requires c κs = search needs
 
 verdict-within-requires : tie.Need-verdict-within-requires
-verdict-within-requires c κs = (search (needs, at-limits), search (needs, roomy-limits))
+verdict-within-requires c κs = search (needs, limits-fit)
 
 returns : tie.Need-returns
 returns c = cc

@@ -1,6 +1,6 @@
 -- `said_of` meets its contract: its two tests are those of the definition.
 use borrow.Author.Needs.{needs}
-use Rattle.walking.proofs.RowWays.{said-never, said-always, said-open}
+use Rattle.walking.proofs.RowValues.{said-never, said-always, said-open}
 use Rattle.walking.proofs.rows.said_of.Statement.{statement}
 use Rattle.walking.proofs.rows.said_of.Tie as tie
 

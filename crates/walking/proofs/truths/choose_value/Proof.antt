@@ -1,6 +1,6 @@
 -- `choose_value` meets its contract, case by case.
 use borrow.Author.Needs.{needs}
-use Rattle.walking.proofs.RowWays.{choose-open}
+use Rattle.walking.proofs.RowValues.{choose-open}
 use Rattle.walking.proofs.truths.choose_value.Statement.{statement}
 use Rattle.walking.proofs.truths.choose_value.Tie as tie
 

@@ -1,6 +1,6 @@
 -- `join_both_ways` meets its contract: the promises of its calls, put one after the other, are the definition.
 use borrow.Author.Needs.{needs}
-use Rattle.store.specs.Limits.{store-limits}
+use Rattle.terms.specs.Limits.{store-limits}
 use Rattle.witness.proofs.JoinWays.{not-open, no-first, no-second, no-forward, no-backward, both}
 use Rattle.witness.proofs.joining.join_both_ways.Statement.{statement}
 use Rattle.witness.proofs.joining.join_both_ways.Tie as tie

@@ -1,2 +1,0 @@
-pub mod ListWays
-pub mod FaultWays

@@ -1,0 +1,10 @@
+pub mod Marks
+pub mod MarkedRows
+pub mod WrittenRows
+pub mod WrittenMeans
+pub mod WrittenAccepted
+pub mod MarkWays
+pub mod PutWords
+pub mod EntryWritten
+pub mod RowsWritten
+pub mod WriteWays

@@ -1,0 +1,3 @@
+pub mod WriteBack
+pub mod WrittenRow
+pub mod Needs
