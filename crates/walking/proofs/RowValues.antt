@@ -82,6 +82,9 @@ module _ {table : List ℕ} {i : ℕ} {f : Facts} (asks : AsksRow table i f) whe
       pub third-lower : LowerPart most-rows c
       third-lower = lower c (lower-parts .2)
 
+pub row-within : (p : Part) {i : ℕ} → LowerPart most-rows p → p ≡ part.Row i → i < most-rows
+row-within p l e = subst (LowerPart most-rows) e l
+
 pub part-row : (before : ℕ → Decision) (p : Part) {i : ℕ} {d : Decision} → p ≡ part.Row i → d ≡ before i → d ≡ part-value before p
 part-row before p e ed = rw e ed
 
