@@ -80,7 +80,7 @@ returns-2 c =
     let e = counted .wide .ensures ∙ used .used .ensures in (
       placed-new _ _ _ e (found .find .ensures) (none .if1 .left) (more .before .room .ensures) (more .if2 .taken) (a .append .ensures),
       indexed-new (used .before .before .before .pre) e (more .before .room .ensures) (more .if2 .taken) (started .entries-start .ensures) _ (a .append .ensures)
-      (found .find .ensures) (none .if1 .left) (c .put .ensures),
+          (found .find .ensures) (none .if1 .left) (c .put .ensures),
     )
 
 same-length-3 : tie.Need-same-length-3
