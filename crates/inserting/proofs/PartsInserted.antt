@@ -10,9 +10,9 @@ use borrow.Author.Tests.{eq-eqb, ne-eqb}
 use Rattle.diagram.specs.declared.placing.Placed.{Placed}
 use Rattle.diagram.specs.declared.placing.Placed.the-variants.{At, Full}
 use Rattle.diagram.specs.Finish.{parts}
-use Rattle.diagram.specs.Insert.{an-entry, place-entry, then-place, insert}
+use Rattle.diagram.specs.Insert.{place-entry, then-place, insert}
 use Rattle.terms.specs.declared.limits.Limits.{Limits}
-use Rattle.store.specs.Layout.{question-count}
+use Rattle.store.specs.Layout.{question-count, entry-of}
 use Rattle.store.specs.Outcome.{Outcome, outcome}
 use Rattle.store.specs.Tree.{Tree, node, tree, Ascending, Reduced}
 use Rattle.walking.specs.Walk.{place-parts}
@@ -37,47 +37,47 @@ pub record PartAfter (s : List ℕ) (k : ℕ) (t : Tree) : Type 0 where
   pub ascending : Ascending (k + 1) (question-count s) t
   pub reduced : Reduced t
 
-place-alike : (limits : Limits) (k h : ℕ) (s : List ℕ) → place-parts limits k h h s ≡ outcome (At h) s
+place-alike : (limits : Limits) (s : List ℕ) (k h : ℕ) → place-parts limits s (entry-of k h h) ≡ outcome (At h) s
 unfolding place-parts
-place-alike limits k h s = ap (λ t. cond t (outcome (At h) s) (place-entry limits s (an-entry k h h))) (eq-eqb h h refl)
+place-alike limits s k h = ap (λ t. cond t (outcome (At h) s) (place-entry limits s (entry-of k h h))) (eq-eqb h h refl)
 
-place-differ : (limits : Limits) (k y n : ℕ) (s : List ℕ) → y ≢ n → place-parts limits k y n s ≡ place-entry limits s (an-entry k y n)
+place-differ : (limits : Limits) (s : List ℕ) (k y n : ℕ) → y ≢ n → place-parts limits s (entry-of k y n) ≡ place-entry limits s (entry-of k y n)
 unfolding place-parts
-place-differ limits k y n s d = ap (λ t. cond t (outcome (At y) s) (place-entry limits s (an-entry k y n))) (ne-eqb y n d)
+place-differ limits s k y n d = ap (λ t. cond t (outcome (At y) s) (place-entry limits s (entry-of k y n))) (ne-eqb y n d)
 
 module _ {limits : Limits} {s : List ℕ} (snd : Sound limits s) (k : ℕ) (y n : Tree) (fy : PartAfter s k y) (fn : PartAfter s k n) where
-  p₁ : Puts limits y s (insert limits y s)
+  p₁ : Puts limits s y (insert limits s y)
   p₁ = insert-puts y snd (k + 1) (question-count s) (fy .ascending) (fy .reduced) (omega arith) (omega arith)
 
-  p₂ : Puts limits n (insert limits y s .words) (insert limits n (insert limits y s .words))
+  p₂ : Puts limits (insert limits s y .words) n (insert limits (insert limits s y .words) n)
   p₂ = insert-puts n (p₁ .grown .sound) (k + 1) (question-count s) (fn .ascending) (fn .reduced) (omega arith)
       (omega (arith, questions-agree (p₁ .grown .agree)))
 
   -- the two parts, then their entry
   abbrev pub placed-parts : Outcome Placed
-  placed-parts = then-place (insert limits y s) (λ hy s₁. then-place (insert limits n s₁) (λ hn s₂. place-parts limits k hy hn s₂))
+  placed-parts = then-place (insert limits s y) (λ hy s₁. then-place (insert limits s₁ n) (λ hn s₂. place-parts limits s₂ (entry-of k hy hn)))
 
-  one-part : y ≡ n → placed-parts ≡ insert limits y s
-  one-part e = then-cases (λ o. o ≡ insert limits y s) (insert limits y s) (λ hy s₁. then-place (insert limits n s₁) (λ hn s₂. place-parts limits k hy hn s₂))
+  one-part : y ≡ n → placed-parts ≡ insert limits s y
+  one-part e = then-cases (λ o. o ≡ insert limits s y) (insert limits s y) (λ hy s₁. then-place (insert limits s₁ n) (λ hn s₂. place-parts limits s₂ (entry-of k hy hn)))
       (λ hy e₁.
-      let s₁ = insert limits y s .words in
-      let again : insert limits n s₁ ≡ outcome (At hy) s₁ = insert-again (p₁ .grown .sound) n hy (p₁ .handle-in hy e₁) (p₁ .stands hy e₁ ∙ e) in
-      ap (λ o. then-place o (λ hn s₂. place-parts limits k hy hn s₂)) again ∙ place-alike limits k hy s₁ ∙ ap (λ a. outcome a s₁) (sym e₁))
-      (λ e₁. ap (λ a. outcome a (insert limits y s .words)) (sym e₁))
+      let s₁ = insert limits s y .words in
+      let again : insert limits s₁ n ≡ outcome (At hy) s₁ = insert-again (p₁ .grown .sound) n hy (p₁ .handle-in hy e₁) (p₁ .stands hy e₁ ∙ e) in
+      ap (λ o. then-place o (λ hn s₂. place-parts limits s₂ (entry-of k hy hn))) again ∙ place-alike limits s₁ k hy ∙ ap (λ a. outcome a s₁) (sym e₁))
+      (λ e₁. ap (λ a. outcome a (insert limits s y .words)) (sym e₁))
 
-  handles-differ : y ≢ n → (hy hn : ℕ) → insert limits y s .answer ≡ At hy → insert limits n (insert limits y s .words) .answer ≡ At hn → hy ≢ hn
+  handles-differ : y ≢ n → (hy hn : ℕ) → insert limits s y .answer ≡ At hy → insert limits (insert limits s y .words) n .answer ≡ At hn → hy ≢ hn
   handles-differ d hy hn e₁ e₂ same =
-      let s₂ = insert limits n (insert limits y s .words) .words in
+      let s₂ = insert limits (insert limits s y .words) n .words in
       let yes-tree : tree s₂ hy ≡ y = tree-agrees (p₂ .grown .agree) (falling (p₁ .grown .sound)) hy (p₁ .handle-in hy e₁) ∙ p₁ .stands hy e₁ in
       d (sym yes-tree ∙ ap (tree s₂) same ∙ p₂ .stands hn e₂)
 
-  two-parts : y ≢ n → placed-parts ≡ insert limits (node k y n) s
+  two-parts : y ≢ n → placed-parts ≡ insert limits s (node k y n)
   unfolding insert
-  two-parts d = then-same (insert limits y s) (λ hy s₁. then-place (insert limits n s₁) (λ hn s₂. place-parts limits k hy hn s₂))
-      (λ hy s₁. then-place (insert limits n s₁) (λ hn s₂. place-entry limits s₂ (an-entry k hy hn)))
-      (λ hy e₁. then-same (insert limits n (insert limits y s .words)) (λ hn s₂. place-parts limits k hy hn s₂)
-      (λ hn s₂. place-entry limits s₂ (an-entry k hy hn))
-      (λ hn e₂. place-differ limits k hy hn (insert limits n (insert limits y s .words) .words) (handles-differ d hy hn e₁ e₂)))
+  two-parts d = then-same (insert limits s y) (λ hy s₁. then-place (insert limits s₁ n) (λ hn s₂. place-parts limits s₂ (entry-of k hy hn)))
+      (λ hy s₁. then-place (insert limits s₁ n) (λ hn s₂. place-entry limits s₂ (entry-of k hy hn)))
+      (λ hy e₁. then-same (insert limits (insert limits s y .words) n) (λ hn s₂. place-parts limits s₂ (entry-of k hy hn))
+      (λ hn s₂. place-entry limits s₂ (entry-of k hy hn))
+      (λ hn e₂. place-differ limits (insert limits (insert limits s y .words) n .words) k hy hn (handles-differ d hy hn e₁ e₂)))
 
-  pub parts-inserted : placed-parts ≡ insert limits (parts k y n) s
-  parts-inserted = parts-cases (λ t. placed-parts ≡ insert limits t s) k y n one-part two-parts
+  pub parts-inserted : placed-parts ≡ insert limits s (parts k y n)
+  parts-inserted = parts-cases (λ t. placed-parts ≡ insert limits s t) k y n one-part two-parts

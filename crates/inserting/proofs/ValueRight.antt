@@ -1,76 +1,68 @@
 -- What the facts say of a rule is right for every choice of counts that fits them: the decision of a question is, and Kleene's truth tables keep it so.
 use Prim.Native.Nat.{ℕ, zero, suc, _-_, _<_, _+_}
-use mathlib.Core.Path.{_≡_, refl, sym, ap, _∙_, subst}
-use mathlib.Core.Bool.{Bool, true, false, cond, not, _&&_, true≢false, false≢true}
+use mathlib.Core.Path.{_≡_, refl, sym, _∙_, subst}
+use mathlib.Core.Bool.{Bool, true, false, cond, true≢false, false≢true}
 use mathlib.Core.List.{List, [], _∷_, _++_}
-use lib.Dec.{eqb}
-use lib.ListN.{length, getD, length-append}
+use lib.ListN.{length, getD}
 use native.Mathlib.Omega.{arith}
 use Rattle.facts.specs.declared.decision.Decision.{Decision}
 use Rattle.facts.specs.declared.decision.Decision.the-variants.{Always, Never, Open}
 use Rattle.facts.specs.Facts.{Fact, Fits, Forces}
-use Rattle.facts.specs.State.{State, free, state-of, decide}
-use Rattle.terms.specs.declared.limits.Limits.{Limits}
+use Rattle.facts.specs.State.{free, state-of, decide}
+use Rattle.inserting.specs.SubjectMeaning.{subject-meaning}
 use Rattle.store.specs.Layout.{question, used, leaves}
 use Rattle.store.specs.Meaning.{meaning}
+use Rattle.store.specs.SoundParts.{Sound}
 use Rattle.store.specs.Tree.{Tree, leaf, node, tree, tree-truth}
-use Rattle.tables.specs.Rows.{Row, row, row-count, row-truth, row-truths, rule-meaning}
+use Rattle.tables.specs.declared.decoding.Part.{Part}
+use Rattle.tables.specs.declared.decoding.Part.the-variants as part
+use Rattle.tables.specs.declared.decoding.Shape.{Shape}
+use Rattle.tables.specs.declared.decoding.Shape.the-variants as shape
+use Rattle.tables.specs.declared.row.Row.{Row}
+use Rattle.tables.specs.Decoding.{decode, part-truth, shape-truth}
+use Rattle.tables.specs.Rows.{row, row-count, row-truth, row-truths, rule-meaning}
+use Rattle.terms.specs.declared.limits.Limits.{Limits}
 use Rattle.terms.specs.declared.term.Equation.{Equation}
 use Rattle.terms.specs.Meaning.{Valuation, truth}
-use Rattle.terms.specs.Words.{equation, term-of}
 use Rattle.walking.specs.declared.subject.Subject.the-variants.{Choice}
-use Rattle.walking.specs.Value.{not-value, agreed, choose-value, and-value, tree-value, row-value, row-values, table-value, subject-value}
-use Rattle.inserting.specs.SubjectMeaning.{subject-meaning}
+use Rattle.walking.specs.Value.{leaf-value, agreed, choose-value, tree-value, handle-value, part-value, shape-value, row-value, row-values, table-value, subject-value}
 use Rattle.facts.proofs.Decided.{decided}
-use Rattle.store.specs.SoundParts.{Sound}
 use Rattle.store.proofs.SoundTree.{meaning-is-tree}
+use Rattle.tables.proofs.DecodedTruth.{decode-truth}
+use Rattle.tables.proofs.RowTruths.{truths-length}
+use Rattle.walking.proofs.RowValues.{values-length}
 
 -- what is said of a truth is right
-abbrev pub Says : Decision → Bool → Type 0
-Says Always b = b ≡ true
-Says Never b = b ≡ false
-Says Open b = Unit {0}
+abbrev pub IsRight : Decision → Bool → Type 0
+IsRight Always b = b ≡ true
+IsRight Never b = b ≡ false
+IsRight Open b = Unit {0}
 
 -- ---- Kleene's truth tables
-says-not : (d : Decision) (b : Bool) → Says d b → Says (not-value d) (not b)
-says-not Always b p = ap not p
-says-not Never b p = ap not p
-says-not Open b p = tt
+right-leaf : (b : Bool) → IsRight (leaf-value b) b
+right-leaf true = refl
+right-leaf false = refl
 
-says-and : (c d : Decision) (a b : Bool) → Says c a → Says d b → Says (and-value c d) (a && b)
-says-and Always d true b p q = q
-says-and Always d false b p q = absurd (false≢true p)
-says-and Never d true b p q = absurd (true≢false p)
-says-and Never d false b p q = refl
-says-and Open Always a b p q = tt
-says-and Open Never true b p q = q
-says-and Open Never false b p q = refl
-says-and Open Open a b p q = tt
+right-agreed : (c d : Decision) (t a b : Bool) → IsRight c a → IsRight d b → IsRight (agreed c d) (cond t a b)
+right-agreed Always Always true a b p q = p
+right-agreed Always Always false a b p q = q
+right-agreed Always Never t a b p q = tt
+right-agreed Always Open t a b p q = tt
+right-agreed Never Always t a b p q = tt
+right-agreed Never Never true a b p q = p
+right-agreed Never Never false a b p q = q
+right-agreed Never Open t a b p q = tt
+right-agreed Open d t a b p q = tt
 
-says-agreed : (c d : Decision) (t a b : Bool) → Says c a → Says d b → Says (agreed c d) (cond t a b)
-says-agreed Always Always true a b p q = p
-says-agreed Always Always false a b p q = q
-says-agreed Always Never t a b p q = tt
-says-agreed Always Open t a b p q = tt
-says-agreed Never Always t a b p q = tt
-says-agreed Never Never true a b p q = p
-says-agreed Never Never false a b p q = q
-says-agreed Never Open t a b p q = tt
-says-agreed Open d t a b p q = tt
+right-choose : (x y z : Decision) (t a b : Bool) → IsRight x t → IsRight y a → IsRight z b → IsRight (choose-value x y z) (cond t a b)
+right-choose Always y z true a b o p q = p
+right-choose Always y z false a b o p q = absurd (false≢true o)
+right-choose Never y z true a b o p q = absurd (true≢false o)
+right-choose Never y z false a b o p q = q
+right-choose Open y z t a b o p q = right-agreed y z t a b p q
 
-says-choose : (x y z : Decision) (t a b : Bool) → Says x t → Says y a → Says z b → Says (choose-value x y z) (cond t a b)
-says-choose Always y z true a b o p q = p
-says-choose Always y z false a b o p q = absurd (false≢true o)
-says-choose Never y z true a b o p q = absurd (true≢false o)
-says-choose Never y z false a b o p q = q
-says-choose Open y z t a b o p q = says-agreed y z t a b p q
-
-says-either : (t : Bool) (c d : Decision) (a b : Bool) → Says c a → Says d b → Says (cond t c d) (cond t a b)
-says-either true c d a b p q = p
-says-either false c d a b p q = q
-
-says-by : (d : Decision) (a b : Bool) → a ≡ b → Says d b → Says d a
-says-by d a b e p = subst (Says d) (sym e) p
+right-by : (d : Decision) {a b : Bool} → a ≡ b → IsRight d b → IsRight d a
+right-by d e p = subst (IsRight d) (sym e) p
 
 -- ---- lists that are made longer at the end
 pub all-longer : {A : Type 0} (P : A → Type 0) (xs : List A) (x d : A) → ((i : ℕ) → P (getD xs i d)) → P x → P d → (i : ℕ) → P (getD (xs ++ (x ∷ [])) i d)
@@ -88,82 +80,65 @@ both-longer R (a ∷ ms) [] x d y e l h p q i = absurd (omega arith)
 both-longer R (a ∷ ms) (b ∷ bs) x d y e l h p q zero = h 0
 both-longer R (a ∷ ms) (b ∷ bs) x d y e l h p q (suc i) = both-longer R ms bs x d y e (omega arith) (λ j. h (suc j)) p q i
 
-values-length : (st : State) (table : List ℕ) (k : ℕ) → length (row-values st table k) ≡ k
-unfolding row-values
-values-length st table zero = refl
-values-length st table (suc k) =
-    length-append (row-values st table k) (row-value st (λ i. getD (row-values st table k) i Never) (row table k) ∷ [])
-    ∙ omega (arith, values-length st table k)
-
-truths-length : (v : Valuation) (table : List ℕ) (k : ℕ) → length (row-truths v table k) ≡ k
-unfolding row-truths
-truths-length v table zero = refl
-truths-length v table (suc k) =
-    length-append (row-truths v table k) (row-truth v (λ i. getD (row-truths v table k) i false) (row table k) ∷ []) ∙ omega (arith, truths-length v table k)
-
 -- ---- a choice of counts that fits the facts
 module _ (xs : List Fact) (t : free (state-of xs) ≡ true) (v : Valuation) (h : Fits xs v) where
-  says-forced : (q : Equation) (d : Decision) → Forces xs q d → Says d (truth v q)
-  says-forced q Always f = f v h
-  says-forced q Never f = f v h
-  says-forced q Open f = tt
+  right-forced : (q : Equation) (d : Decision) → Forces xs q d → IsRight d (truth v q)
+  right-forced q Always f = f v h
+  right-forced q Never f = f v h
+  right-forced q Open f = tt
 
-  says-question : (q : Equation) → Says (decide (state-of xs) q) (truth v q)
-  says-question q = says-forced q (decide (state-of xs) q) (decided xs q t)
+  right-question : (q : Equation) → IsRight (decide (state-of xs) q) (truth v q)
+  right-question q = right-forced q (decide (state-of xs) q) (decided xs q t)
 
-  says-branch : (d : Decision) (y n : Decision) (b a c : Bool) → Says d b → Says y a → Says n c
-      → Says (elim d [ Always ↦ y | Never ↦ n | Open ↦ Open ]) (cond b a c)
-  says-branch Always y n true a c o p q = p
-  says-branch Always y n false a c o p q = absurd (false≢true o)
-  says-branch Never y n true a c o p q = absurd (true≢false o)
-  says-branch Never y n false a c o p q = q
-  says-branch Open y n b a c o p q = tt
+  right-branch : (d : Decision) (y n : Decision) (b a c : Bool) → IsRight d b → IsRight y a → IsRight n c
+      → IsRight (elim d [ Always ↦ y | Never ↦ n | Open ↦ Open ]) (cond b a c)
+  right-branch Always y n true a c o p q = p
+  right-branch Always y n false a c o p q = absurd (false≢true o)
+  right-branch Never y n true a c o p q = absurd (true≢false o)
+  right-branch Never y n false a c o p q = q
+  right-branch Open y n b a c o p q = tt
 
-  says-tree : (ask : ℕ → Equation) (u : Tree) → Says (tree-value ask u (state-of xs)) (tree-truth (λ k. truth v (ask k)) u)
+  right-tree : (ask : ℕ → Equation) (u : Tree) → IsRight (tree-value ask u (state-of xs)) (tree-truth (λ k. truth v (ask k)) u)
   unfolding tree-value
-  says-tree ask (leaf true) = refl
-  says-tree ask (leaf false) = refl
-  says-tree ask (node k y n) = says-branch (decide (state-of xs) (ask k)) (tree-value ask y (state-of xs)) (tree-value ask n (state-of xs))
-      (truth v (ask k)) (tree-truth (λ k. truth v (ask k)) y) (tree-truth (λ k. truth v (ask k)) n) (says-question (ask k)) (says-tree ask y) (says-tree ask n)
+  right-tree ask (leaf b) = right-leaf b
+  right-tree ask (node k y n) = right-branch (decide (state-of xs) (ask k)) (tree-value ask y (state-of xs)) (tree-value ask n (state-of xs))
+      (truth v (ask k)) (tree-truth (λ k. truth v (ask k)) y) (tree-truth (λ k. truth v (ask k)) n) (right-question (ask k)) (right-tree ask y) (right-tree ask n)
 
-  says-row : (values : ℕ → Decision) (truths : ℕ → Bool) (r : Row) → ((i : ℕ) → Says (values i) (truths i))
-      → Says (row-value (state-of xs) values r) (row-truth v truths r)
-  unfolding row-value row-truth
-  says-row values truths r before =
-      let x = r .a in
-      let y = r .b in
-      let z = r .c in
-      let q = equation (term-of x) (term-of y) in
-      let p₅ = says-either (eqb (r .kind) 5) (choose-value (values x) (values y) (values z)) Never (cond (truths x) (truths y) (truths z)) false
-      (says-choose (values x) (values y) (values z) (truths x) (truths y) (truths z) (before x) (before y) (before z)) refl in
-      let p₄ = says-either (eqb (r .kind) 4) (and-value (values x) (values y)) _ (truths x && truths y) _
-      (says-and (values x) (values y) (truths x) (truths y) (before x) (before y)) p₅ in
-      let p₃ = says-either (eqb (r .kind) 3) (not-value (values x)) _ (not (truths x)) _ (says-not (values x) (truths x) (before x)) p₄ in
-      let p₂ = says-either (eqb (r .kind) 2) (decide (state-of xs) q) _ (truth v q) _ (says-question q) p₃ in
-      let p₁ = says-either (eqb (r .kind) 1) Always _ true _ refl p₂ in
-      says-either (eqb (r .kind) 0) Never _ false _ refl p₁
+  -- ---- a row, by what it stands for
+  module _ (values : ℕ → Decision) (truths : ℕ → Bool) (before : (i : ℕ) → IsRight (values i) (truths i)) where
+    right-part : (p : Part) → IsRight (part-value values p) (part-truth truths p)
+    right-part (part.Leaf b) = right-leaf b
+    right-part (part.Row i) = before i
 
-  says-rows : (table : List ℕ) (k i : ℕ) → Says (getD (row-values (state-of xs) table k) i Never) (getD (row-truths v table k) i false)
+    right-shape : (sh : Shape) → IsRight (shape-value (state-of xs) values sh) (shape-truth v truths sh)
+    right-shape (shape.Leaf b) = right-leaf b
+    right-shape (shape.Equation e) = right-question e
+    right-shape (shape.Choice a b c) = right-choose (part-value values a) (part-value values b) (part-value values c)
+        (part-truth truths a) (part-truth truths b) (part-truth truths c) (right-part a) (right-part b) (right-part c)
+
+    right-row : (r : Row) → IsRight (row-value (state-of xs) values r) (row-truth v truths r)
+    right-row r = right-by (row-value (state-of xs) values r) (decode-truth v truths r) (right-shape (decode r))
+
+  right-rows : (table : List ℕ) (k i : ℕ) → IsRight (getD (row-values (state-of xs) table k) i Never) (getD (row-truths v table k) i false)
   unfolding row-values row-truths
-  says-rows table zero i = refl
-  says-rows table (suc k) i =
+  right-rows table zero i = refl
+  right-rows table (suc k) i =
       let values = row-values (state-of xs) table k in
       let truths = row-truths v table k in
-      both-longer Says values truths (row-value (state-of xs) (λ i. getD values i Never) (row table k)) Never
+      both-longer IsRight values truths (row-value (state-of xs) (λ i. getD values i Never) (row table k)) Never
       (row-truth v (λ i. getD truths i false) (row table k)) false (values-length (state-of xs) table k ∙ sym (truths-length v table k))
-      (says-rows table k) (says-row (λ i. getD values i Never) (λ i. getD truths i false) (row table k) (says-rows table k)) refl i
+      (right-rows table k) (right-row (λ i. getD values i Never) (λ i. getD truths i false) (right-rows table k) (row table k)) refl i
 
-  says-handle : {limits : Limits} {s : List ℕ} → Sound limits s → (a : ℕ) → a < used s + leaves
-      → Says (tree-value (question s) (tree s a) (state-of xs)) (meaning s a v)
-  says-handle {s = s} snd a l = says-by (tree-value (question s) (tree s a) (state-of xs)) (meaning s a v) (tree-truth (λ k. truth v (question s k)) (tree s a))
-      (meaning-is-tree snd a l v) (says-tree (question s) (tree s a))
+  pub right-table : (table : List ℕ) → IsRight (table-value table (state-of xs)) (rule-meaning table v)
+  right-table table = right-rows table (row-count table) (row-count table - 1)
 
-  pub says-table : (table : List ℕ) → Says (table-value table (state-of xs)) (rule-meaning table v)
-  says-table table = says-rows table (row-count table) (row-count table - 1)
+  -- ---- three handles
+  module _ {limits : Limits} {s : List ℕ} (snd : Sound limits s) where
+    right-handle : (a : ℕ) → a < used s + leaves → IsRight (handle-value s a (state-of xs)) (meaning s a v)
+    right-handle a l = right-by (handle-value s a (state-of xs)) (meaning-is-tree snd a l v) (right-tree (question s) (tree s a))
 
-  pub says-choice : {limits : Limits} {s : List ℕ} → Sound limits s → (a b c : ℕ) → a < used s + leaves → b < used s + leaves → c < used s + leaves
-      → (table : List ℕ) → Says (subject-value table (Choice a b c) s (state-of xs)) (subject-meaning table (Choice a b c) s v)
-  says-choice {s = s} snd a b c ha hb hc table =
-      let value : ℕ → Decision = λ h. tree-value (question s) (tree s h) (state-of xs) in
-      says-choose (value a) (value b) (value c) (meaning s a v) (meaning s b v) (meaning s c v)
-      (says-handle snd a ha) (says-handle snd b hb) (says-handle snd c hc)
+    pub right-choice : (source : List ℕ) (a b c : ℕ) → a < used s + leaves → b < used s + leaves → c < used s + leaves
+        → IsRight (subject-value s source (Choice a b c) (state-of xs)) (subject-meaning s source (Choice a b c) v)
+    right-choice source a b c ha hb hc =
+        right-choose (handle-value s a (state-of xs)) (handle-value s b (state-of xs)) (handle-value s c (state-of xs))
+        (meaning s a v) (meaning s b v) (meaning s c v) (right-handle a ha) (right-handle b hb) (right-handle c hc)

@@ -6,7 +6,6 @@ use mathlib.Core.Bool.{Bool, true, false}
 use mathlib.Core.List.{List, [], _∷_}
 use native.Mathlib.Omega.{arith}
 use native.Mathlib.Decide.{ℕ-discrete}
-use lib.ListN.{length}
 use Rattle.diagram.specs.declared.placing.Placed.{Placed}
 use Rattle.diagram.specs.Finish.{finish}
 use Rattle.diagram.specs.Insert.{then-place, insert}
@@ -16,41 +15,28 @@ use Rattle.facts.specs.declared.decision.Decision.the-variants.{Always, Never, 
 use Rattle.facts.specs.Facts.{Fact, fact, Fits, Forces}
 use Rattle.facts.specs.State.{State, free, no-to, yes-to, start, state-of, decide}
 use Rattle.terms.specs.declared.limits.Limits.{Limits}
-use Rattle.store.specs.Layout.{question-count, question}
+use Rattle.store.specs.Layout.{question-count, question, entry-of}
 use Rattle.store.specs.Outcome.{Outcome}
 use Rattle.terms.specs.declared.term.Equation.{Equation}
 use Rattle.terms.specs.Meaning.{Valuation}
 use Rattle.walking.specs.declared.subject.Subject.{Subject}
 use Rattle.walking.specs.Value.{subject-value}
 use Rattle.walking.specs.Walk.{place-parts, walk}
+use Rattle.inserting.specs.Given.{Given}
 use Rattle.inserting.specs.SubjectMeaning.{subject-meaning}
+use Rattle.store.specs.Grown.{Grown}
 use Rattle.diagram.proofs.FinishTree.{finish-ascending, finish-reduced}
 use Rattle.diagram.proofs.FinishTruth.{forces, yes-free, no-free}
-use Rattle.diagram.proofs.InsertTree.{Grown, insert-puts}
+use Rattle.diagram.proofs.InsertTree.{insert-puts}
+use Rattle.diagram.proofs.QuestionList.{questions-length}
 use Rattle.store.specs.SoundParts.{Sound}
+use Rattle.store.proofs.StoreGrown.{grown-same, grown-on}
 use Rattle.store.proofs.StoreWords.{questions-agree, question-agrees}
 use Rattle.inserting.proofs.PartsInserted.{then-same, PartAfter, parts-inserted}
-use Rattle.inserting.proofs.SubjectValue.{Given, value-right, value-known, value-later}
+use Rattle.inserting.proofs.SubjectValue.{value-right, value-known, value-later}
 use Rattle.inserting.proofs.ValueKnown.{Known, Settled, SettledTo}
-use Rattle.inserting.proofs.ValueRight.{Says}
+use Rattle.inserting.proofs.ValueRight.{IsRight}
 use Rattle.inserting.proofs.WalkSteps.{walk-always, walk-never, walk-skips, walk-asks, finish-skips, finish-asks, leaf-inserted}
-
--- ---- stores that grow
-grown-same : {limits : Limits} {s : List ℕ} → Sound limits s → Grown limits s s
-grown-same snd = record { sound = snd; agree = record { word = λ k h n. refl }; grows = omega arith; length-kept = refl }
-
-grown-on : {limits : Limits} {s s₁ s₂ : List ℕ} → Grown limits s s₁ → Grown limits s₁ s₂ → Grown limits s s₂
-grown-on f g = record {
-  sound = g .sound;
-  agree = record { word = λ k h n. g .agree .word k (omega (arith, questions-agree (f .agree), f .grows)) n ∙ f .agree .word k h n };
-  grows = omega (arith, f .grows, g .grows);
-  length-kept = g .length-kept ∙ f .length-kept;
-}
-
-questions-length : (s : List ℕ) (left k : ℕ) → length (questions-from s left k) ≡ left
-unfolding questions-from
-questions-length s zero k = refl
-questions-length s (suc left) k = ap suc (questions-length s left (k + 1))
 
 -- ---- the questions that the facts settle
 settled-by : (xs : List Fact) (q : Equation) (d : Decision) → Forces xs q d → Known d → Settled xs q
@@ -77,33 +63,33 @@ record Going (s : List ℕ) (left k : ℕ) (xs : List Fact) : Type 0 where
   to-last : k + left ≡ question-count s + 1
   before : SettledTo s k xs
 
-module _ {limits : Limits} {table : List ℕ} {subject : Subject} {s : List ℕ} (snd : Sound limits s) (given : Given limits table subject s) where
+module _ {limits : Limits} {s source : List ℕ} {subject : Subject} (snd : Sound limits s) (given : Given limits s source subject) where
   -- the walk adds what is finished from the question with the number k on
   abbrev Adds : ℕ → ℕ → List Fact → List ℕ → Type 0
   Adds left k xs s′ =
-      walk limits table subject left k (state-of xs) s′ ≡ insert limits (finish (questions-from s left k) k (state-of xs) (subject-meaning table subject s)) s′
+      walk limits s′ source subject left k (state-of xs) ≡ insert limits s′ (finish (questions-from s left k) k (state-of xs) (subject-meaning s source subject))
 
   -- the value on the store as it is now
-  now : {s′ : List ℕ} → Grown limits s s′ → (xs : List Fact) (d : Decision) → subject-value table subject s (state-of xs) ≡ d
-      → subject-value table subject s′ (state-of xs) ≡ d
-  now l xs d e = value-later table snd l subject (given .taken) (state-of xs) ∙ e
+  now : {s′ : List ℕ} → Grown limits s s′ → (xs : List Fact) (d : Decision) → subject-value s source subject (state-of xs) ≡ d
+      → subject-value s′ source subject (state-of xs) ≡ d
+  now l xs d e = value-later snd source l subject (given .taken) (state-of xs) ∙ e
 
-  says : (xs : List Fact) → free (state-of xs) ≡ true → (d : Decision) → subject-value table subject s (state-of xs) ≡ d → (v : Valuation) → Fits xs v
-      → Says d (subject-meaning table subject s v)
-  says xs t d e v h = subst (λ d. Says d (subject-meaning table subject s v)) e (value-right table snd subject (given .taken) xs t v h)
+  right : (xs : List Fact) → free (state-of xs) ≡ true → (d : Decision) → subject-value s source subject (state-of xs) ≡ d → (v : Valuation) → Fits xs v
+      → IsRight d (subject-meaning s source subject v)
+  right xs t d e v h = subst (λ d. IsRight d (subject-meaning s source subject v)) e (value-right snd source subject (given .taken) xs t v h)
 
   module _ (left k : ℕ) (xs : List Fact) (t : free (state-of xs) ≡ true) (s′ : List ℕ) (l : Grown limits s s′) where
-    at-always : subject-value table subject s (state-of xs) ≡ Always → Adds left k xs s′
-    at-always e = walk-always limits table subject left k (state-of xs) s′ (now l xs Always e)
-        ∙ sym (leaf-inserted limits (questions-from s left k) k xs (subject-meaning table subject s) true t (says xs t Always e) s′)
+    at-always : subject-value s source subject (state-of xs) ≡ Always → Adds left k xs s′
+    at-always e = walk-always limits s′ source subject left k (state-of xs) (now l xs Always e)
+        ∙ sym (leaf-inserted limits (questions-from s left k) k xs (subject-meaning s source subject) true t (right xs t Always e) s′)
 
-    at-never : subject-value table subject s (state-of xs) ≡ Never → Adds left k xs s′
-    at-never e = walk-never limits table subject left k (state-of xs) s′ (now l xs Never e)
-        ∙ sym (leaf-inserted limits (questions-from s left k) k xs (subject-meaning table subject s) false t (says xs t Never e) s′)
+    at-never : subject-value s source subject (state-of xs) ≡ Never → Adds left k xs s′
+    at-never e = walk-never limits s′ source subject left k (state-of xs) (now l xs Never e)
+        ∙ sym (leaf-inserted limits (questions-from s left k) k xs (subject-meaning s source subject) false t (right xs t Never e) s′)
 
   -- the next question, where the walk is right from the one after it
   module _ (left k : ℕ) (later : (xs : List Fact) → Going s left (k + 1) xs → (s′ : List ℕ) → Grown limits s s′ → Adds left (k + 1) xs s′)
-      (xs : List Fact) (g : Going s (suc left) k xs) (s′ : List ℕ) (l : Grown limits s s′) (e : subject-value table subject s (state-of xs) ≡ Open) where
+      (xs : List Fact) (g : Going s (suc left) k xs) (s′ : List ℕ) (l : Grown limits s s′) (e : subject-value s source subject (state-of xs) ≡ Open) where
     here : (d : Decision) → decide (state-of xs) (question s k) ≡ d → decide (state-of xs) (question s′ k) ≡ d
     here d f = ap (decide (state-of xs)) (question-agrees (l .agree) k) ∙ f
 
@@ -116,15 +102,15 @@ module _ {limits : Limits} {table : List ℕ} {subject : Subject} {s : List ℕ}
           to-last = omega (arith, g .to-last);
           before = settled-next s k xs xs (λ v h. h) (g .before) (settled-by xs q d (forces xs q (g .some-fit) d f) known);
         } in
-        walk-skips limits table subject left k (state-of xs) s′ (now l xs Open e) d (here d f) known
+        walk-skips limits s′ source subject left k (state-of xs) (now l xs Open e) d (here d f) known
         ∙ later xs going s′ l
-        ∙ ap (λ u. insert limits u s′) (sym (finish-skips q (questions-from s left (k + 1)) k (state-of xs) (subject-meaning table subject s) d f known))
+        ∙ ap (insert limits s′) (sym (finish-skips q (questions-from s left (k + 1)) k (state-of xs) (subject-meaning s source subject) d f known))
 
-    part-after : (st : State) → PartAfter s′ k (finish (questions-from s left (k + 1)) (k + 1) st (subject-meaning table subject s))
+    part-after : (st : State) → PartAfter s′ k (finish (questions-from s left (k + 1)) (k + 1) st (subject-meaning s source subject))
     part-after st = record {
-      ascending = finish-ascending (questions-from s left (k + 1)) (k + 1) (question-count s′) st (subject-meaning table subject s)
+      ascending = finish-ascending (questions-from s left (k + 1)) (k + 1) (question-count s′) st (subject-meaning s source subject)
           (omega (arith, questions-length s left (k + 1), g .to-last, questions-agree (l .agree)));
-      reduced = finish-reduced (questions-from s left (k + 1)) (k + 1) st (subject-meaning table subject s);
+      reduced = finish-reduced (questions-from s left (k + 1)) (k + 1) st (subject-meaning s source subject);
     }
 
     asked : decide (state-of xs) (question s k) ≡ Open → Adds (suc left) k xs s′
@@ -132,13 +118,13 @@ module _ {limits : Limits} {table : List ℕ} {subject : Subject} {s : List ℕ}
     asked f =
         let q = question s k in
         let st = state-of xs in
-        let means = subject-meaning table subject s in
+        let means = subject-meaning s source subject in
         let qs = questions-from s left (k + 1) in
         let y = finish qs (k + 1) (yes-to st q) means in
         let n = finish qs (k + 1) (no-to st q) means in
-        let walks : State → List ℕ → Outcome Placed = walk limits table subject left (k + 1) in
-        let no-walked : Equation → ℕ → List ℕ → Outcome Placed = λ p h s₁. then-place (walks (no-to st p) s₁) (λ hn s₂. place-parts limits k h hn s₂) in
-        let no-placed : ℕ → List ℕ → Outcome Placed = λ h s₁. then-place (insert limits n s₁) (λ hn s₂. place-parts limits k h hn s₂) in
+        let walks : List ℕ → State → Outcome Placed = λ w. walk limits w source subject left (k + 1) in
+        let no-walked : Equation → ℕ → List ℕ → Outcome Placed = λ p h s₁. then-place (walks s₁ (no-to st p)) (λ hn s₂. place-parts limits s₂ (entry-of k h hn)) in
+        let no-placed : ℕ → List ℕ → Outcome Placed = λ h s₁. then-place (insert limits s₁ n) (λ hn s₂. place-parts limits s₂ (entry-of k h hn)) in
         let going-yes : Going s left (k + 1) (fact q true ∷ xs) = record {
           some-fit = yes-free xs q (g .some-fit) f;
           to-last = omega (arith, g .to-last);
@@ -152,31 +138,31 @@ module _ {limits : Limits} {table : List ℕ} {subject : Subject} {s : List ℕ}
         let fy = part-after (yes-to st q) in
         let fn = part-after (no-to st q) in
         let puts = insert-puts y (l .sound) (k + 1) (question-count s′) (fy .ascending) (fy .reduced) (omega arith) (omega arith) in
-        let s₁ = insert limits y s′ .words in
-        walk-asks limits table subject left k st s′ (now l xs Open e) (here Open f)
-        ∙ ap (λ p. then-place (walks (yes-to st p) s′) (no-walked p)) (question-agrees (l .agree) k)
+        let s₁ = insert limits s′ y .words in
+        walk-asks limits s′ source subject left k st (now l xs Open e) (here Open f)
+        ∙ ap (λ p. then-place (walks s′ (yes-to st p)) (no-walked p)) (question-agrees (l .agree) k)
         ∙ ap (λ o. then-place o (no-walked q)) (later (fact q true ∷ xs) going-yes s′ l)
-        ∙ then-same (insert limits y s′) (no-walked q) no-placed
-        (λ h _. ap (λ o. then-place o (λ hn s₂. place-parts limits k h hn s₂)) (later (fact q false ∷ xs) going-no s₁ (grown-on l (puts .grown))))
+        ∙ then-same (insert limits s′ y) (no-walked q) no-placed
+        (λ h _. ap (λ o. then-place o (λ hn s₂. place-parts limits s₂ (entry-of k h hn))) (later (fact q false ∷ xs) going-no s₁ (grown-on l (puts .grown))))
         ∙ parts-inserted (l .sound) k y n fy fn
-        ∙ ap (λ u. insert limits u s′) (sym (finish-asks q qs k st means f))
+        ∙ ap (insert limits s′) (sym (finish-asks q qs k st means f))
 
     at-question : (d : Decision) → decide (state-of xs) (question s k) ≡ d → Adds (suc left) k xs s′
     at-question Always f = skipped Always f tt
     at-question Never f = skipped Never f tt
     at-question Open f = asked f
 
-  at-end : (k : ℕ) (xs : List Fact) → Going s zero k xs → subject-value table subject s (state-of xs) ≡ Open → ⊥
+  at-end : (k : ℕ) (xs : List Fact) → Going s zero k xs → subject-value s source subject (state-of xs) ≡ Open → ⊥
   at-end k xs g e =
       let all : SettledTo s (question-count s + 1) xs = subst (λ j. SettledTo s j xs) (omega (arith, g .to-last)) (g .before) in
-      subst Known e (value-known table snd subject (given .taken) xs (g .some-fit) all)
+      subst Known e (value-known snd source subject (given .taken) xs (g .some-fit) all)
 
   -- by the value of the subject
   by-value : (left k : ℕ) (xs : List Fact) → Going s left k xs → (s′ : List ℕ) → Grown limits s s′
-      → (subject-value table subject s (state-of xs) ≡ Open → Adds left k xs s′) → Adds left k xs s′
-  by-value left k xs g s′ l unknown = go (subject-value table subject s (state-of xs)) refl
+      → (subject-value s source subject (state-of xs) ≡ Open → Adds left k xs s′) → Adds left k xs s′
+  by-value left k xs g s′ l unknown = go (subject-value s source subject (state-of xs)) refl
     where
-      go : (d : Decision) → subject-value table subject s (state-of xs) ≡ d → Adds left k xs s′
+      go : (d : Decision) → subject-value s source subject (state-of xs) ≡ d → Adds left k xs s′
       go Always e = at-always left k xs (g .some-fit) s′ l e
       go Never e = at-never left k xs (g .some-fit) s′ l e
       go Open e = unknown e
@@ -187,8 +173,8 @@ module _ {limits : Limits} {table : List ℕ} {subject : Subject} {s : List ℕ}
       (λ e. at-question left k (walk-from left (k + 1)) xs g s′ l e (decide (state-of xs) (question s k)) refl)
 
 -- "start with no facts": the walk over all questions adds the finished diagram of what its subject means
-pub walk-inserts : {limits : Limits} {table : List ℕ} {subject : Subject} {s : List ℕ} → Sound limits s → Given limits table subject s
-    → walk limits table subject (question-count s) 1 start s ≡ insert limits (finished-in s (subject-meaning table subject s)) s
-walk-inserts {limits} {table} {subject} {s} snd given =
+pub walk-inserts : {limits : Limits} {s source : List ℕ} {subject : Subject} → Sound limits s → Given limits s source subject
+    → walk limits s source subject (question-count s) 1 start ≡ insert limits s (finished-in s (subject-meaning s source subject))
+walk-inserts {limits} {s} {source} {subject} snd given =
     let none : SettledTo s 1 [] = record { settled = λ j h l. absurd (omega arith) } in
     walk-from snd given (question-count s) 1 [] record { some-fit = refl; to-last = omega arith; before = none } s (grown-same snd)

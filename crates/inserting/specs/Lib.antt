@@ -1,2 +1,3 @@
 pub mod SubjectMeaning
-pub mod Walked
+pub mod Given
+pub mod Needs

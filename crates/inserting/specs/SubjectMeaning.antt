@@ -12,7 +12,7 @@ use Rattle.walking.specs.declared.subject.Subject.the-variants.{Table, Choice}
 abbrev pub choice : List ℕ → ℕ → ℕ → ℕ → Valuation → Bool
 choice s a b c v = cond (meaning s a v) (meaning s b v) (meaning s c v)
 
--- the rule of the table's last row, or if-then-else of three handles
-abbrev pub subject-meaning : List ℕ → Subject → List ℕ → Valuation → Bool
-subject-meaning table Table s = rule-meaning table
-subject-meaning table (Choice a b c) s = choice s a b c
+-- the rule of the last row of the source, or if-then-else of three handles of the store
+abbrev pub subject-meaning : List ℕ → List ℕ → Subject → Valuation → Bool
+subject-meaning s source Table = rule-meaning source
+subject-meaning s source (Choice a b c) = choice s a b c

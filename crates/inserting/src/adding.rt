@@ -2,7 +2,7 @@
 ghost use mathlib.Core.Path.{_≡_};
 ghost use Prim.Native.Nat.{_+_, _*_, _≤_};
 ghost use lib.ListN.{length};
-ghost use Rattle.inserting.specs.Walked as spec;
+ghost use Rattle.inserting.specs.Needs as spec;
 ghost use Rattle.store.specs.Layout as layout;
 ghost use Rattle.store.specs.Outcome.{outcome};
 use diagram::Placed;
@@ -10,9 +10,13 @@ use facts::no_facts;
 use index::BUCKETS;
 use index::CAPACITY;
 use index::load;
+use operations::BuildFault;
 use operations::Built;
 use store::clear_from;
 use store::entries_start;
+use store::question_count;
+use store::set_used;
+use store::used;
 use store::wide;
 use terms::Limits;
 use walking::Goal;
@@ -20,32 +24,37 @@ use walking::Subject;
 use walking::walk;
 
 // Takes the entries after the first so many away.
-fn restore(store: &mut [u32], used: u32)
-    requires { ⌜ layout.entries-start (now store) + 3 * used ≤ length (now store) ⌝ }
-    ensures { λ _. ⌜ now (store .exit) ≡ spec.restored (now (store .entry)) used ⌝ }
+fn restore(store: &mut [u32], entries: u32)
+    requires { ⌜ layout.entries-start (now store) + 3 * entries ≤ length (now store) ⌝ }
+    ensures { λ _. ⌜ now (store .exit) ≡ spec.restored (now (store .entry)) entries ⌝ }
 {
-    let from = entries_start(store) + 3 * wide(used);
-    store[2] = used;
-    clear_from(from, store);
+    let from = entries_start(store) + 3 * wide(entries);
+    set_used(store, entries);
+    clear_from(store, from);
 }
 
 // Walks over all questions with no facts, through an index over the entries.
-fn walk_all(limits: Limits, store: &mut [u32], table: &[u32], subject: Subject) -> Placed
-    requires { ⌜ spec.CanAdd limits (now table) subject (now store) ⌝ }
-    ensures { λ r. ⌜ outcome r (now (store .exit)) ≡ spec.whole-walk limits (now (table .entry)) subject (now (store .entry)) ⌝ }
+fn walk_all(limits: Limits, store: &mut [u32], source: &[u32], subject: Subject) -> Placed
+    requires { ⌜ spec.CanAdd limits (now store) (now source) subject ⌝ }
+    ensures { λ r. ⌜ outcome r (now (store .exit)) ≡ spec.whole-walk limits (now (store .entry)) (now (source .entry)) subject ⌝ }
 {
     let mut lasts = [0u16; BUCKETS];
     let mut links = [0u16; CAPACITY];
-    let questions = store[1];
-    let used = wide(store[2]);
-    load(store, entries_start(store), used, &mut lasts, &mut links);
+    load(
+        store,
+        entries_start(store),
+        wide(used(store)),
+        &mut lasts,
+        &mut links,
+    );
     let goal = Goal { limits, subject };
+    let questions = question_count(store);
     walk(
         goal,
         store,
         &mut lasts,
         &mut links,
-        table,
+        source,
         no_facts(),
         1,
         questions,
@@ -53,17 +62,17 @@ fn walk_all(limits: Limits, store: &mut [u32], table: &[u32], subject: Subject) 
 }
 
 // Adds the diagram of a subject, or leaves every word as it came where there is no room for it.
-pub fn add(limits: Limits, store: &mut [u32], table: &[u32], subject: Subject) -> Built
-    requires { ⌜ spec.CanAdd limits (now table) subject (now store) ⌝ }
-    ensures { λ r. ⌜ outcome r (now (store .exit)) ≡ spec.walked limits (now (table .entry)) subject (now (store .entry)) ⌝ }
+pub fn add(limits: Limits, store: &mut [u32], source: &[u32], subject: Subject) -> Built
+    requires { ⌜ spec.CanAdd limits (now store) (now source) subject ⌝ }
+    ensures { λ r. ⌜ outcome r (now (store .exit)) ≡ spec.walked limits (now (store .entry)) (now (source .entry)) subject ⌝ }
 {
-    let used = store[2];
-    let placed = walk_all(limits, store, table, subject);
+    let entries = used(store);
+    let placed = walk_all(limits, store, source, subject);
     match placed {
         Placed::At(h) => Built::Handle(h),
         Placed::Full => {
-            restore(store, used);
-            Built::NoRoom
+            restore(store, entries);
+            Built::Refused(BuildFault::NoRoom)
         }
     }
 }

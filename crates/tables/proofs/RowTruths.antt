@@ -17,7 +17,7 @@ use Rattle.terms.specs.Meaning.{Valuation}
 use Rattle.tables.proofs.DecodedTruth.{decode-truth}
 
 module _ (v : Valuation) (table : List ℕ) where
-  truths-length : (k : ℕ) → length (row-truths v table k) ≡ k
+  pub truths-length : (k : ℕ) → length (row-truths v table k) ≡ k
   unfolding row-truths
   truths-length zero = refl
   truths-length (suc k) =

@@ -1,11 +1,11 @@
 -- `add` meets its contract: the walk's handle is the answer, and a full store is put back as it came.
 use borrow.Author.Needs.{needs}
-use Rattle.inserting.proofs.AddWays.{has-used, walked-at, can-restore, walked-full}
+use Rattle.inserting.proofs.AddWays.{heading-in, walked-at, can-restore, walked-full}
 use Rattle.inserting.proofs.adding.add.Statement.{statement}
 use Rattle.inserting.proofs.adding.add.Tie as tie
 
-slice-read-used : tie.Need-slice-read-used
-slice-read-used c = search (needs, has-used)
+used-requires : tie.Need-used-requires
+used-requires c κs = search (needs, heading-in)
 
 walk-all-requires : tie.Need-walk-all-requires
 walk-all-requires c κs = search needs
@@ -35,7 +35,7 @@ pub add-spec : {M : Type 1} → statement M
 add-spec =
     tie.close
     (tie.spec
-    slice-read-used
+    used-requires
     walk-all-requires
     enum-known-placed
     enum-told

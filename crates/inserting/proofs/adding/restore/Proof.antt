@@ -1,6 +1,6 @@
--- `restore` meets its contract: word 2 is written, and zeros after the entries.
+-- `restore` meets its contract: the number of entries is written, and zeros after them.
 use borrow.Author.Needs.{needs}
-use Rattle.inserting.proofs.AddWays.{clear-in, kept-length, restores}
+use Rattle.inserting.proofs.AddWays.{clear-in, restores}
 use Rattle.inserting.proofs.adding.restore.Statement.{statement}
 use Rattle.inserting.proofs.adding.restore.Tie as tie
 
@@ -16,14 +16,14 @@ mul-from c = search needs
 add-from : tie.Need-add-from
 add-from c = search needs
 
-slice-write-store : tie.Need-slice-write-store
-slice-write-store c = search needs
+set-used-requires : tie.Need-set-used-requires
+set-used-requires c κs = search needs
 
 clear-from-requires : tie.Need-clear-from-requires
 clear-from-requires c κs = search (needs, clear-in)
 
 same-length : tie.Need-same-length
-same-length c = search (needs, kept-length)
+same-length c = search needs
 
 returns : tie.Need-returns
 returns c = search (needs, restores)
@@ -36,7 +36,7 @@ restore-spec =
     wide-requires
     mul-from
     add-from
-    slice-write-store
+    set-used-requires
     clear-from-requires
     same-length
     returns)
