@@ -3,7 +3,7 @@
 use Prim.Native.Nat.{ℕ, _+_, _-_, _*_, _≤_, _<_}
 use mathlib.Core.Path.{_≡_, sym, ap, subst, _∙_}
 use mathlib.Core.Bool.{Bool, true}
-use mathlib.Core.List.{List, _++_}
+use mathlib.Core.List.{List}
 use native.Mathlib.Omega.{arith}
 use native.Mathlib.Decide.{ℕ-discrete, decLt}
 use lib.ListN.{length, getD, take, replicate, length-set, length-take, length-append, length-replicate, getD-replicate, List·getD-append}
@@ -14,10 +14,12 @@ use Rattle.facts.specs.declared.record.Facts.{Facts}
 use Rattle.facts.specs.Needs.{state}
 use Rattle.facts.specs.State.{start}
 use Rattle.index.specs.Needs.{EntriesFit, Loaded}
-use Rattle.inserting.specs.Needs.{whole-walk, walked, restored, CanAdd}
+use Rattle.inserting.specs.Given.{Taken}
+use Rattle.inserting.specs.Needs.{whole-walk, restored, CanWalkAll, CanAdd}
+use Rattle.inserting.specs.SubjectMeaning.{subject-meaning}
 use Rattle.operations.specs.declared.answer.BuildFault.the-variants.{NoRoom}
 use Rattle.operations.specs.declared.answer.Built.the-variants.{Handle}
-use Rattle.operations.specs.Operations.{refused, unless-full}
+use Rattle.operations.specs.Operations.{refused, unless-full, added, add-meaning}
 use Rattle.store.specs.Grown.{Agree}
 use Rattle.store.specs.Layout.{heading-length, question-count, used-place, used, with-used, entries-start, cleared-from}
 use Rattle.store.specs.Outcome.{Outcome, outcome}
@@ -25,10 +27,13 @@ use Rattle.store.specs.Sound.{differ-below}
 use Rattle.store.specs.SoundParts.{Sound}
 use Rattle.terms.specs.declared.limits.Limits.{Limits}
 use Rattle.walking.specs.declared.subject.Subject.{Subject}
-use Rattle.walking.specs.Needs.{CanWalk, InIndex}
+use Rattle.walking.specs.declared.subject.Subject.the-variants.{Table, Choice}
+use Rattle.walking.specs.Needs.{Named, CanWalk, InIndex}
 use Rattle.walking.specs.Walk.{walk}
 use Rattle.store.proofs.SoundFacts.{sound-says, used-fits, used-few, differ-from}
 use Rattle.store.proofs.StoreWords.{questions-agree}
+use Rattle.inserting.proofs.TableGood.{good-table}
+use Rattle.inserting.proofs.WalkInserts.{walk-inserts}
 use Rattle.walking.proofs.SoundWalkable.{sound-walkable, can-begin}
 use Rattle.walking.proofs.WalkKeeps.{GoesOn, walk-goes}
 
@@ -88,13 +93,13 @@ module _ (s t : List ℕ) (same : length t ≡ length s) (agree : Agree s t (use
     | no n ↦ after k (omega arith) (omega (arith, restored-length))
   ])
 
--- ---- the walk
-module _ {limits : Limits} {s source : List ℕ} {subject : Subject} (can : CanAdd limits s source subject) where
+-- ---- the walk over all questions
+module _ {limits : Limits} {s source : List ℕ} {subject : Subject} (can : CanWalkAll limits s source subject) where
   snd : Sound limits s
   snd = sound-says limits s (can .is-sound)
 
-  pub heading-in : heading-length ≤ length s
-  heading-in = omega (arith, snd .list-in)
+  pub heading-within : heading-length ≤ length s
+  heading-within = omega (arith, snd .list-in)
 
   module _ {from u w : ℕ} (ef : from ≡ entries-start s) (eu : u ≡ used s) (ew : w ≡ u) where
     pub can-load : EntriesFit s from w
@@ -109,27 +114,47 @@ module _ {limits : Limits} {s source : List ℕ} {subject : Subject} (can : CanA
   pub can-walk : {q : ℕ} (f : Facts) → q ≡ question-count s → state f ≡ start → CanWalk limits s source subject f 1 q
   can-walk f eq e = rw eq (can-begin s source subject (can .fit) (can .is-sound) (can .named) e)
 
-  goes : GoesOn s (whole-walk limits s source subject)
-  goes = walk-goes limits (can .fit) source subject (question-count s) 1 start s (sound-walkable limits s (can .fit) (can .is-sound)) (omega arith) (omega arith)
-
   pub from-start : {q : ℕ} (f : Facts) → q ≡ question-count s → state f ≡ start → {o : Outcome Placed}
       → o ≡ walk limits s source subject q 1 (state f) → o ≡ whole-walk limits s source subject
   from-start f eq ef e = e ∙ (λ i. walk limits s source subject (eq i) 1 (ef i))
+
+-- ---- adding what it finds
+module _ {limits : Limits} {s source : List ℕ} {subject : Subject} (can : CanAdd limits s source subject) where
+  store-sound : Sound limits s
+  store-sound = sound-says limits s (can .is-sound)
+
+  pub heading-in : heading-length ≤ length s
+  heading-in = omega (arith, store-sound .list-in)
+
+  -- a table that build takes can be walked over
+  named-by : (x : Subject) → Taken limits s source x → Named s source x
+  named-by Table taken =
+      good-table limits s source (omega (arith, store-sound .fields-in, can .fit .fields-fit)) (omega (arith, can .fit .counts-fit)) taken
+  named-by (Choice a b c) taken = taken
+
+  pub can-walk-all : CanWalkAll limits s source subject
+  can-walk-all = record { fit = can .fit; is-sound = can .is-sound; named = named-by subject (can .given .taken) }
+
+  goes : GoesOn s (whole-walk limits s source subject)
+  goes = walk-goes limits (can .fit) source subject (question-count s) 1 start s (sound-walkable limits s (can .fit) (can .is-sound)) (omega arith) (omega arith)
 
   module _ {r : Placed} {t : List ℕ} (e : outcome r t ≡ whole-walk limits s source subject) where
     left : GoesOn s (outcome r t)
     left = subst (GoesOn s) (sym e) goes
 
-    pub walked-at : (h : ℕ) → r ≡ At h → outcome (Handle h) t ≡ walked limits s source subject
-    unfolding walked
-    walked-at h er = ap (λ a. unless-full s (outcome a t)) (sym er) ∙ ap (unless-full s) e
+    -- the walk adds the finished diagram
+    adds : unless-full s (outcome r t) ≡ add-meaning limits s (subject-meaning s source subject)
+    unfolding added
+    adds = ap (unless-full s) (e ∙ walk-inserts store-sound (can .given))
+
+    pub added-at : (h : ℕ) → r ≡ At h → outcome (Handle h) t ≡ add-meaning limits s (subject-meaning s source subject)
+    added-at h er = ap (λ a. unless-full s (outcome a t)) (sym er) ∙ adds
 
     module _ {u : ℕ} (eu : u ≡ used s) (same : length t ≡ length s) where
       pub can-restore : entries-start t + 3 * u ≤ length t
-      can-restore = omega (arith, questions-agree (left .agrees), used-fits snd)
+      can-restore = omega (arith, questions-agree (left .agrees), used-fits store-sound)
 
-      pub walked-full : r ≡ Full → {w : List ℕ} → w ≡ restored t u → refused w NoRoom ≡ walked limits s source subject
-      unfolding walked
-      walked-full er ew =
-          ap (λ x. refused x NoRoom) (ew ∙ ap (restored t) eu ∙ restored-same s t same (left .agrees) (used-fits snd) (snd .unused-zero))
-          ∙ ap (λ a. unless-full s (outcome a t)) (sym er) ∙ ap (unless-full s) e
+      pub full-refused : r ≡ Full → {w : List ℕ} → w ≡ restored t u → refused w NoRoom ≡ add-meaning limits s (subject-meaning s source subject)
+      full-refused er ew =
+          ap (λ x. refused x NoRoom) (ew ∙ ap (restored t) eu ∙ restored-same s t same (left .agrees) (used-fits store-sound) (store-sound .unused-zero))
+          ∙ ap (λ a. unless-full s (outcome a t)) (sym er) ∙ adds

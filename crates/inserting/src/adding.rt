@@ -3,6 +3,8 @@ ghost use mathlib.Core.Path.{_≡_};
 ghost use Prim.Native.Nat.{_+_, _*_, _≤_};
 ghost use lib.ListN.{length};
 ghost use Rattle.inserting.specs.Needs as spec;
+ghost use Rattle.inserting.specs.SubjectMeaning.{subject-meaning};
+ghost use Rattle.operations.specs.Operations.{add-meaning};
 ghost use Rattle.store.specs.Layout as layout;
 ghost use Rattle.store.specs.Outcome.{outcome};
 use diagram::Placed;
@@ -35,7 +37,7 @@ fn restore(store: &mut [u32], entries: u32)
 
 // Walks over all questions with no facts, through an index over the entries.
 fn walk_all(limits: Limits, store: &mut [u32], source: &[u32], subject: Subject) -> Placed
-    requires { ⌜ spec.CanAdd limits (now store) (now source) subject ⌝ }
+    requires { ⌜ spec.CanWalkAll limits (now store) (now source) subject ⌝ }
     ensures { λ r. ⌜ outcome r (now (store .exit)) ≡ spec.whole-walk limits (now (store .entry)) (now (source .entry)) subject ⌝ }
 {
     let mut lasts = [0u16; BUCKETS];
@@ -61,10 +63,11 @@ fn walk_all(limits: Limits, store: &mut [u32], source: &[u32], subject: Subject)
     )
 }
 
-// Adds the diagram of a subject, or leaves every word as it came where there is no room for it.
+// Adds the finished diagram of what a subject means, or leaves every word as it came where there is no room for it.
 pub fn add(limits: Limits, store: &mut [u32], source: &[u32], subject: Subject) -> Built
     requires { ⌜ spec.CanAdd limits (now store) (now source) subject ⌝ }
-    ensures { λ r. ⌜ outcome r (now (store .exit)) ≡ spec.walked limits (now (store .entry)) (now (source .entry)) subject ⌝ }
+    ensures { λ r. ⌜ outcome r (now (store .exit))
+        ≡ add-meaning limits (now (store .entry)) (subject-meaning (now (store .entry)) (now (source .entry)) subject) ⌝ }
 {
     let entries = used(store);
     let placed = walk_all(limits, store, source, subject);

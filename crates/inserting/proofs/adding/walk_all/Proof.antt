@@ -1,14 +1,14 @@
 -- `walk_all` meets its contract: a sound store's entries differ, so all of them are in the index when the walk begins.
 use borrow.Author.Needs.{needs}
-use Rattle.inserting.proofs.AddWays.{heading-in, can-load, in-index, can-walk, from-start}
+use Rattle.inserting.proofs.AddWays.{heading-within, can-load, in-index, can-walk, from-start}
 use Rattle.inserting.proofs.adding.walk_all.Statement.{statement}
 use Rattle.inserting.proofs.adding.walk_all.Tie as tie
 
 entries-start-requires : tie.Need-entries-start-requires
-entries-start-requires c κs = search (needs, heading-in)
+entries-start-requires c κs = search (needs, heading-within)
 
 used-requires : tie.Need-used-requires
-used-requires c κs = search (needs, heading-in)
+used-requires c κs = search (needs, heading-within)
 
 wide-requires : tie.Need-wide-requires
 wide-requires c κs = search needs
@@ -17,7 +17,7 @@ load-requires : tie.Need-load-requires
 load-requires c κs = search (needs, can-load)
 
 question-count-requires : tie.Need-question-count-requires
-question-count-requires c κs = search (needs, heading-in)
+question-count-requires c κs = search (needs, heading-within)
 
 no-facts-requires : tie.Need-no-facts-requires
 no-facts-requires c κs = search needs
