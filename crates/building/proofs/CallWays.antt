@@ -1,59 +1,44 @@
--- What build, negate, join and choose are on each way through the code: soundness, then the table or the handles, then the walk, which adds the finished
--- diagram. Not a is if a then never else always, and a and b is if a then b else never: the leaves are handles of every store.
+-- What build, negate, join and choose are on each way through the code: soundness, then the table or the handles, then the finished diagram is added. Not a
+-- is if a then never else always, and a and b is if a then b else never: the leaves are handles of every store.
 use Prim.Native.Nat.{ℕ, _+_, _≤_, _<_}
 use mathlib.Core.Path.{_≡_, refl, sym, ap, _∙_}
 use mathlib.Core.Bool.{Bool, true, false, cond, not, _&&_, and-true, and-false}
-use mathlib.Core.List.{List}
+use mathlib.Core.List.{List, []}
+use mathlib.Core.Option.{Option, none, some}
 use native.Mathlib.Omega.{arith}
 use borrow.Author.Tests.{ltb-true, lt-ltb}
-use lib.Dec.{eqb, ltb}
+use lib.Dec.{eqb}
 use lib.ListN.{length}
-use Rattle.index.specs.Capacity.{capacity}
+use Rattle.building.specs.Needs.{are-handles, CanChoose}
+use Rattle.diagram.specs.Questions.{questions}
+use Rattle.inserting.specs.Needs.{CanAdd}
+use Rattle.inserting.specs.SubjectMeaning.{choice}
+use Rattle.operations.specs.declared.answer.BuildFault.the-variants.{NotSound, NoHandle, BadTable}
 use Rattle.operations.specs.declared.answer.Built.{Built}
-use Rattle.operations.specs.declared.answer.Built.the-variants.{Handle, NotSound, NoHandle, NoWords, NotRows, TooManyRows, BadRow, OutOfLimits, NotListed, NoRoom}
-use Rattle.operations.specs.Operations.{added, add-meaning, is-handle, build, negate, join, choose, unless-full}
-use Rattle.operations.specs.Table.{table-fault}
-use Rattle.terms.specs.declared.limits.Limits.{Limits}
-use Rattle.store.specs.Layout.{heading-length, used, leaves, entries-start}
-use Rattle.terms.specs.Limits.{store-limits}
+use Rattle.operations.specs.Operations.{refused, if-sound, if-handles, if-taken, added, add-meaning, build, negate, join, choose}
+use Rattle.store.specs.Layout.{heading-length, used, leaves, entries-start, is-handle}
 use Rattle.store.specs.Meaning.{meaning}
-use Rattle.store.specs.Outcome.{Outcome, outcome}
+use Rattle.store.specs.Outcome.{Outcome}
 use Rattle.store.specs.Sound.{sound}
+use Rattle.tables.specs.declared.answer.Checked.{Checked}
+use Rattle.tables.specs.declared.answer.Checked.the-variants.{Fine, Refused}
+use Rattle.tables.specs.declared.answer.TableFault.{TableFault}
+use Rattle.tables.specs.Faults.{table-fault}
 use Rattle.tables.specs.Rows.{rule-meaning}
+use Rattle.tables.specs.TableFault.{checked}
+use Rattle.terms.specs.declared.limits.Limits.{Limits}
 use Rattle.terms.specs.Meaning.{Valuation}
-use Rattle.walking.specs.declared.subject.Subject.{Subject}
+use Rattle.terms.specs.Needs.{FitLimits}
 use Rattle.walking.specs.declared.subject.Subject.the-variants.{Table, Choice}
-use Rattle.walking.specs.Ready.{FitLimits}
-use Rattle.building.specs.Choice.{are-handles, CanChoose}
-use Rattle.inserting.specs.SubjectMeaning.{choice, subject-meaning}
-use Rattle.inserting.specs.Walked.{walked, CanAdd}
-use denote.Enum.Declared.{tagOf}
-use types.Run.{OneOf, miss}
-use Rattle.operations.proofs.answer.Built.{the-type}
-use Rattle.operations.proofs.MeaningAdded.{finished-alike}
-use Rattle.operations.proofs.TableListed.{accepts}
+use Rattle.diagram.proofs.FinishTruth.{finish-same}
 use Rattle.store.proofs.Handles.{leaf-stays}
-use Rattle.store.specs.SoundParts.{Sound}
 use Rattle.store.proofs.SoundFacts.{sound-says}
 use Rattle.store.proofs.Tests.{passes}
-use Rattle.walking.proofs.SoundWalkable.{store-limits-fit}
-use Rattle.operations.proofs.Refusals.{refusals}
-use Rattle.inserting.proofs.SubjectValue.{Given}
-use Rattle.inserting.proofs.TableGood.{good-table}
-use Rattle.inserting.proofs.WalkInserts.{walk-inserts}
 
--- ---- the walk adds the finished diagram
-walked-adds : {limits : Limits} {table : List ℕ} {subject : Subject} {s : List ℕ} → Sound limits s → Given limits table subject s
-    → walked limits table subject s ≡ add-meaning limits s (subject-meaning table subject s)
-unfolding walked added
-walked-adds {s = s} snd g = ap (unless-full s) (walk-inserts snd g)
-
-module _ {limits : Limits} {a b c : ℕ} {s : List ℕ} (can : CanChoose limits a b c s) where
-  pub choice-adds : (table : List ℕ) → CanAdd limits table (Choice a b c) s
-  choice-adds table = record { fit = can .fit; is-sound = can .is-sound; named = (can .first-in, can .second-in, can .third-in) }
-
-  pub adds-choice : (table : List ℕ) {o : Outcome Built} → o ≡ walked limits table (Choice a b c) s → o ≡ add-meaning limits s (choice s a b c)
-  adds-choice table e = e ∙ walked-adds (sound-says limits s (can .is-sound)) record { taken = (can .first-in, can .second-in, can .third-in) }
+-- ---- the choice of three handles
+module _ {limits : Limits} {s : List ℕ} {a b c : ℕ} (can : CanChoose limits s a b c) where
+  pub choice-adds : (source : List ℕ) → CanAdd limits s source (Choice a b c)
+  choice-adds source = record { fit = can .fit; is-sound = can .is-sound; given = record { taken = (can .first-in, can .second-in, can .third-in) } }
 
 -- ---- not and and, as choices
 module _ (limits : Limits) (s : List ℕ) where
@@ -72,31 +57,29 @@ module _ (limits : Limits) (s : List ℕ) where
   is-and false y = refl
 
   same-added : (means others : Valuation → Bool) → ((v : Valuation) → means v ≡ others v) → add-meaning limits s means ≡ add-meaning limits s others
-  same-added means others e = ap (λ t. added limits t s) (finished-alike s means others e)
+  same-added means others e = ap (added limits s) (finish-same (questions s) 1 [] means others refl (λ v _. e v))
 
   leaf-handle : (leaf : ℕ) → leaf < leaves → is-handle s leaf ≡ true
   leaf-handle leaf h = lt-ltb leaf (used s + leaves) (omega arith)
 
   -- the call, by its test and what it adds
   abbrev tested : Bool → Outcome Built → Outcome Built
-  tested t o = cond (sound limits s) (cond t o (outcome NoHandle s)) (outcome NotSound s)
+  tested given next = if-sound limits s (if-handles s given next)
 
-  pub is-negated : (a : ℕ) {o : Outcome Built} → o ≡ choose limits a 0 1 s → o ≡ negate limits a s
+  pub is-negated : (a : ℕ) {o : Outcome Built} → o ≡ choose limits s a 0 1 → o ≡ negate limits s a
   unfolding choose negate
   is-negated a e =
       let adds = same-added (choice s a 0 1) (λ v. not (meaning s a v))
       (λ v. (λ i. cond (meaning s a v) (never-means v i) (always-means v i)) ∙ is-not (meaning s a v)) in
-      let test : are-handles s a 0 1 ≡ is-handle s a =
-      simp (leaf-handle 0 (omega arith), leaf-handle 1 (omega arith), and-true) in
+      let test : are-handles s a 0 1 ≡ is-handle s a = simp (leaf-handle 0 (omega arith), leaf-handle 1 (omega arith), and-true) in
       e ∙ (λ i. tested (test i) (adds i))
 
-  pub is-joined : (a b : ℕ) {o : Outcome Built} → o ≡ choose limits a b 0 s → o ≡ join limits a b s
+  pub is-joined : (a b : ℕ) {o : Outcome Built} → o ≡ choose limits s a b 0 → o ≡ join limits s a b
   unfolding choose join
   is-joined a b e =
       let adds = same-added (choice s a b 0) (λ v. meaning s a v && meaning s b v)
       (λ v. (λ i. cond (meaning s a v) (meaning s b v) (never-means v i)) ∙ is-and (meaning s a v) (meaning s b v)) in
-      let test : are-handles s a b 0 ≡ (is-handle s a && is-handle s b) =
-      simp (leaf-handle 0 (omega arith), and-true) in
+      let test : are-handles s a b 0 ≡ (is-handle s a && is-handle s b) = simp (leaf-handle 0 (omega arith), and-true) in
       e ∙ (λ i. tested (test i) (adds i))
 
 -- ---- the test of three handles
@@ -111,51 +94,25 @@ module _ (s : List ℕ) (a b c : ℕ) {x : Bool} (ex : x ≡ is-handle s a) wher
     pub by-third : y ≡ true → {z : Bool} → z ≡ is-handle s c → z ≡ are-handles s a b c
     by-third t ez = rw (← ex, d, ← ey, t) ez
 
--- ---- the limits of every store
-pub entries-fit : {limits : Limits} → FitLimits limits → limits .entries ≤ capacity
-entries-fit f = f .entries-few
+-- ---- the fault of a table, by what its test answers
+none-found : (x : Option TableFault) → checked x ≡ Fine → x ≡ none
+none-found none e = refl
+none-found (some f) e = absurd (let z : _≡_ {A = ℕ} 0 1 = cc in omega arith)
 
-pub limits-fit : {limits : Limits} → limits ≡ store-limits → FitLimits limits
-limits-fit e = rw e store-limits-fit
-
--- ---- what build is, by the fault of the table
-abbrev by-fault : Limits → List ℕ → List ℕ → Built → Outcome Built
-by-fault limits s table f = elim f as (λ _. Outcome Built) [
-  | Handle h ↦ add-meaning limits s (rule-meaning table)
-  | NotSound ↦ outcome NotSound s
-  | NoHandle ↦ outcome NoHandle s
-  | NoWords ↦ outcome NoWords s
-  | NotRows ↦ outcome NotRows s
-  | TooManyRows ↦ outcome TooManyRows s
-  | BadRow ↦ outcome BadRow s
-  | OutOfLimits ↦ outcome OutOfLimits s
-  | NotListed ↦ outcome NotListed s
-  | NoRoom ↦ outcome NoRoom s
-]
-
--- a refusal leaves the words as they are
-stays : (limits : Limits) (s table : List ℕ) (g : Built) → OneOf refusals (tagOf the-type g) → outcome g s ≡ by-fault limits s table g
-stays limits s table (Handle h) r = absurd (miss refusals 0 tt r)
-stays limits s table NotSound r = refl
-stays limits s table NoHandle r = refl
-stays limits s table NoWords r = refl
-stays limits s table NotRows r = refl
-stays limits s table TooManyRows r = refl
-stays limits s table BadRow r = refl
-stays limits s table OutOfLimits r = refl
-stays limits s table NotListed r = refl
-stays limits s table NoRoom r = refl
+fault-found : (x : Option TableFault) {f : TableFault} → checked x ≡ Refused f → x ≡ some f
+fault-found none e = absurd (let z : _≡_ {A = ℕ} 0 1 = cc in omega arith)
+fault-found (some g) {f} e = let d : g ≡ f = cc in ap some d
 
 -- ---- soundness first
 module _ (limits : Limits) (s : List ℕ) {t : Bool} (et : t ≡ sound limits s) where
   module _ (e : t ≡ false) where
-    pub build-unsound : (table : List ℕ) → outcome NotSound s ≡ build limits table s
+    pub build-unsound : (table : List ℕ) → refused s NotSound ≡ build limits s table
     unfolding build
-    build-unsound table = rw (← et, e) refl
+    build-unsound table = rw (← et, e)
 
-    pub choose-unsound : (a b c : ℕ) → outcome NotSound s ≡ choose limits a b c s
+    pub choose-unsound : (a b c : ℕ) → refused s NotSound ≡ choose limits s a b c
     unfolding choose
-    choose-unsound a b c = rw (← et, e) refl
+    choose-unsound a b c = rw (← et, e)
 
   module _ (e : t ≡ true) where
     sound-is : sound limits s ≡ true
@@ -168,34 +125,32 @@ module _ (limits : Limits) (s : List ℕ) {t : Bool} (et : t ≡ sound limits s)
     heading-within = omega (arith, list-within)
 
     -- ---- a table
-    module _ (table : List ℕ) {f : Built} (ef : f ≡ table-fault limits s table) where
-      build-is : by-fault limits s table f ≡ build limits table s
+    module _ (table : List ℕ) {f : Checked} (ef : f ≡ checked (table-fault limits s table)) where
+      build-is : (x : Option TableFault) → table-fault limits s table ≡ x → if-taken s x (add-meaning limits s (rule-meaning table)) ≡ build limits s table
       unfolding build
-      build-is = rw (← et, e, ← ef) refl
+      build-is x ex = rw (← et, e, ex)
 
-      pub build-refused : OneOf refusals (tagOf the-type f) → outcome f s ≡ build limits table s
-      build-refused r = stays limits s table f r ∙ build-is
+      pub build-refused : {g : TableFault} → f ≡ Refused g → refused s (BadTable g) ≡ build limits s table
+      build-refused {g} d = build-is (some g) (fault-found (table-fault limits s table) (sym ef ∙ d))
 
-      module _ {n : ℕ} (en : f ≡ Handle n) where
-        taken : accepts (table-fault limits s table) ≡ true
-        taken = ap accepts (sym ef ∙ en)
+      module _ (d : f ≡ Fine) where
+        taken : table-fault limits s table ≡ none
+        taken = none-found (table-fault limits s table) (sym ef ∙ d)
 
-        pub can-build : FitLimits limits → CanAdd limits table Table s
-        can-build fit =
-            let snd = sound-says limits s sound-is in
-            record { fit = fit; is-sound = sound-is; named = good-table limits s table (omega (arith, snd .fields-in, fit .fields-few)) (fit .steps-few) taken }
+        pub can-build : FitLimits limits → CanAdd limits s table Table
+        can-build fit = record { fit = fit; is-sound = sound-is; given = record { taken = taken } }
 
-        pub builds : {o : Outcome Built} → o ≡ walked limits table Table s → o ≡ build limits table s
-        builds eo = eo ∙ walked-adds (sound-says limits s sound-is) record { taken = taken } ∙ ap (by-fault limits s table) (sym en) ∙ build-is
+        pub builds : {o : Outcome Built} → o ≡ add-meaning limits s (rule-meaning table) → o ≡ build limits s table
+        builds eo = eo ∙ build-is none taken
 
     -- ---- handles
     module _ (a b c : ℕ) {x : Bool} (ex : x ≡ are-handles s a b c) where
-      pub choose-none : x ≡ false → outcome NoHandle s ≡ choose limits a b c s
+      pub choose-none : x ≡ false → refused s NoHandle ≡ choose limits s a b c
       unfolding choose
-      choose-none d = rw (← et, e, ← ex, d) refl
+      choose-none d = rw (← et, e, ← ex, d)
 
       module _ (d : x ≡ true) where
-        pub can-choose : FitLimits limits → CanChoose limits a b c s
+        pub can-choose : FitLimits limits → CanChoose limits s a b c
         can-choose fit =
             let all : are-handles s a b c ≡ true = sym ex ∙ d in
             record {
@@ -206,6 +161,6 @@ module _ (limits : Limits) (s : List ℕ) {t : Bool} (et : t ≡ sound limits s)
               third-in = ltb-true c (used s + leaves) (passes (is-handle s c) (λ f. simp (f, and-false) at all));
             }
 
-        pub chooses : {o : Outcome Built} → o ≡ add-meaning limits s (choice s a b c) → o ≡ choose limits a b c s
+        pub chooses : {o : Outcome Built} → o ≡ add-meaning limits s (choice s a b c) → o ≡ choose limits s a b c
         unfolding choose
         chooses eo = rw (← et, e, ← ex, d) eo

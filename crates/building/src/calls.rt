@@ -2,35 +2,37 @@
 ghost use mathlib.Core.Path.{_≡_};
 ghost use Prim.Native.Nat.{_≤_};
 ghost use lib.ListN.{length};
-ghost use Rattle.building.specs.Choice.{are-handles, CanChoose};
+ghost use Rattle.building.specs.Needs.{are-handles, CanChoose};
 ghost use Rattle.inserting.specs.SubjectMeaning.{choice};
 ghost use Rattle.operations.specs.Operations as operation;
 ghost use Rattle.store.specs.Layout as layout;
-ghost use Rattle.terms.specs.Limits as limit;
 ghost use Rattle.store.specs.Outcome.{outcome};
-ghost use Rattle.walking.specs.Ready.{FitLimits};
-use checking::table_fault;
+ghost use Rattle.terms.specs.Limits as limit;
+ghost use Rattle.terms.specs.Needs.{FitLimits};
 use inserting::add;
+use operations::BuildFault;
 use operations::Built;
 use soundness::is_sound;
 use store::has_handle;
+use tables::Checked;
+use tables::table_fault;
 use terms::Limits;
 use terms::limits_of_store;
 use walking::Subject;
 
 // Adds the diagram of a rule table within limits.
-pub fn build_within(limits: Limits, table: &[u32], store: &mut [u32]) -> Built
+pub fn build_within(limits: Limits, store: &mut [u32], table: &[u32]) -> Built
     requires { ⌜ FitLimits limits ⌝ }
-    ensures { λ r. ⌜ outcome r (now (store .exit)) ≡ operation.build limits (now (table .entry)) (now (store .entry)) ⌝ }
+    ensures { λ r. ⌜ outcome r (now (store .exit)) ≡ operation.build limits (now (store .entry)) (now (table .entry)) ⌝ }
 {
     if is_sound(limits, store) {
-        let fault = table_fault(limits, store, table);
-        let Built::Handle(_) = fault else {
-            return fault;
+        let checked = table_fault(limits, store, table);
+        let Checked::Refused(f) = checked else {
+            return add(limits, store, table, Subject::Table);
         };
-        return add(limits, store, table, Subject::Table);
+        return Built::Refused(BuildFault::BadTable(f));
     }
-    Built::NotSound
+    Built::Refused(BuildFault::NotSound)
 }
 
 // The handles of the leaves.
@@ -39,8 +41,8 @@ const NEVER: u32 = 0;
 const ALWAYS: u32 = 1;
 
 // Adds the diagram of if a then b else c, of handles of a sound store.
-fn add_choice(limits: Limits, a: u32, b: u32, c: u32, store: &mut [u32]) -> Built
-    requires { ⌜ CanChoose limits a b c (now store) ⌝ }
+fn add_choice(limits: Limits, store: &mut [u32], a: u32, b: u32, c: u32) -> Built
+    requires { ⌜ CanChoose limits (now store) a b c ⌝ }
     ensures { λ r. ⌜ outcome r (now (store .exit)) ≡ operation.add-meaning limits (now (store .entry)) (choice (now (store .entry)) a b c) ⌝ }
 {
     add(
@@ -69,59 +71,59 @@ fn has_handles(s: &[u32], a: u32, b: u32, c: u32) -> bool
 }
 
 // Adds the diagram of if a then b else c within limits.
-pub fn choose_within(limits: Limits, a: u32, b: u32, c: u32, store: &mut [u32]) -> Built
+pub fn choose_within(limits: Limits, store: &mut [u32], a: u32, b: u32, c: u32) -> Built
     requires { ⌜ FitLimits limits ⌝ }
-    ensures { λ r. ⌜ outcome r (now (store .exit)) ≡ operation.choose limits a b c (now (store .entry)) ⌝ }
+    ensures { λ r. ⌜ outcome r (now (store .exit)) ≡ operation.choose limits (now (store .entry)) a b c ⌝ }
 {
     if is_sound(limits, store) {
         if has_handles(store, a, b, c) {
-            return add_choice(limits, a, b, c, store);
+            return add_choice(limits, store, a, b, c);
         }
-        return Built::NoHandle;
+        return Built::Refused(BuildFault::NoHandle);
     }
-    Built::NotSound
+    Built::Refused(BuildFault::NotSound)
 }
 
 // Adds the diagram of a and b within limits: if a then b else never.
-pub fn join_within(limits: Limits, a: u32, b: u32, store: &mut [u32]) -> Built
+pub fn join_within(limits: Limits, store: &mut [u32], a: u32, b: u32) -> Built
     requires { ⌜ FitLimits limits ⌝ }
-    ensures { λ r. ⌜ outcome r (now (store .exit)) ≡ operation.join limits a b (now (store .entry)) ⌝ }
+    ensures { λ r. ⌜ outcome r (now (store .exit)) ≡ operation.join limits (now (store .entry)) a b ⌝ }
 {
-    choose_within(limits, a, b, NEVER, store)
+    choose_within(limits, store, a, b, NEVER)
 }
 
 // Adds the diagram of not a within limits: if a then never else always.
-pub fn negate_within(limits: Limits, handle: u32, store: &mut [u32]) -> Built
+pub fn negate_within(limits: Limits, store: &mut [u32], a: u32) -> Built
     requires { ⌜ FitLimits limits ⌝ }
-    ensures { λ r. ⌜ outcome r (now (store .exit)) ≡ operation.negate limits handle (now (store .entry)) ⌝ }
+    ensures { λ r. ⌜ outcome r (now (store .exit)) ≡ operation.negate limits (now (store .entry)) a ⌝ }
 {
-    choose_within(limits, handle, NEVER, ALWAYS, store)
+    choose_within(limits, store, a, NEVER, ALWAYS)
 }
 
 // Builds the rule of a table.
-pub fn build(table: &[u32], store: &mut [u32]) -> Built
-    ensures { λ r. ⌜ outcome r (now (store .exit)) ≡ operation.build limit.store-limits (now (table .entry)) (now (store .entry)) ⌝ }
+pub fn build(store: &mut [u32], table: &[u32]) -> Built
+    ensures { λ r. ⌜ outcome r (now (store .exit)) ≡ operation.build limit.store-limits (now (store .entry)) (now (table .entry)) ⌝ }
 {
-    build_within(limits_of_store(), table, store)
+    build_within(limits_of_store(), store, table)
 }
 
 // Negates a handle.
-pub fn negate(handle: u32, store: &mut [u32]) -> Built
-    ensures { λ r. ⌜ outcome r (now (store .exit)) ≡ operation.negate limit.store-limits handle (now (store .entry)) ⌝ }
+pub fn negate(store: &mut [u32], a: u32) -> Built
+    ensures { λ r. ⌜ outcome r (now (store .exit)) ≡ operation.negate limit.store-limits (now (store .entry)) a ⌝ }
 {
-    negate_within(limits_of_store(), handle, store)
+    negate_within(limits_of_store(), store, a)
 }
 
 // Joins two handles.
-pub fn join(a: u32, b: u32, store: &mut [u32]) -> Built
-    ensures { λ r. ⌜ outcome r (now (store .exit)) ≡ operation.join limit.store-limits a b (now (store .entry)) ⌝ }
+pub fn join(store: &mut [u32], a: u32, b: u32) -> Built
+    ensures { λ r. ⌜ outcome r (now (store .exit)) ≡ operation.join limit.store-limits (now (store .entry)) a b ⌝ }
 {
-    join_within(limits_of_store(), a, b, store)
+    join_within(limits_of_store(), store, a, b)
 }
 
 // Chooses by three handles.
-pub fn choose(a: u32, b: u32, c: u32, store: &mut [u32]) -> Built
-    ensures { λ r. ⌜ outcome r (now (store .exit)) ≡ operation.choose limit.store-limits a b c (now (store .entry)) ⌝ }
+pub fn choose(store: &mut [u32], a: u32, b: u32, c: u32) -> Built
+    ensures { λ r. ⌜ outcome r (now (store .exit)) ≡ operation.choose limit.store-limits (now (store .entry)) a b c ⌝ }
 {
-    choose_within(limits_of_store(), a, b, c, store)
+    choose_within(limits_of_store(), store, a, b, c)
 }

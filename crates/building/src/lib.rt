@@ -1,9 +1,6 @@
 // Build, negate, join and choose.
-mod answer;
 mod calls;
 
-pub use answer::built_number;
-pub use answer::built_result;
 pub use calls::build;
 pub use calls::build_within;
 pub use calls::choose;
