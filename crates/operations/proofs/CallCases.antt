@@ -39,11 +39,11 @@ build-cases {limits} {s} snd table P taken faulty =
 
 -- ---- any call on any words
 -- the call's own test passes: the table has no fault, the handles are the store's
-abbrev pub Passes : Limits → List ℕ → Call → Type 0
-Passes limits s (build table) = table-fault limits s table ≡ none
-Passes limits s (negate a) = is-handle s a ≡ true
-Passes limits s (join a b) = (is-handle s a && is-handle s b) ≡ true
-Passes limits s (choose a b c) = (is-handle s a && is-handle s b && is-handle s c) ≡ true
+abbrev pub TestPassed : Limits → List ℕ → Call → Type 0
+TestPassed limits s (build table) = table-fault limits s table ≡ none
+TestPassed limits s (negate a) = is-handle s a ≡ true
+TestPassed limits s (join a b) = (is-handle s a && is-handle s b) ≡ true
+TestPassed limits s (choose a b c) = (is-handle s a && is-handle s b && is-handle s c) ≡ true
 
 module _ (limits : Limits) (s : List ℕ) (P : Outcome Built → Type 0) (stops : (f : BuildFault) → (f ≡ NotSound → sound limits s ≡ false) → P (refused s f)) where
   sound-cases : (next : Outcome Built) → (sound limits s ≡ true → P next) → P (if-sound limits s next)
@@ -54,7 +54,7 @@ module _ (limits : Limits) (s : List ℕ) (P : Outcome Built → Type 0) (stops 
       by-test (λ t. P (cond t next (refused s NoHandle))) given goes (λ _. stops NoHandle (λ e. absurd (let z : _≡_ {A = ℕ} 0 1 = cc in omega arith)))
 
   -- Handles mean what the words say; 22 is answered of words that are no sound store only.
-  pub call-cases : (c : Call) → (sound limits s ≡ true → Passes limits s c → P (add-meaning limits s (rule-of-call [] s c))) → P (answer-to limits s c)
+  pub call-cases : (c : Call) → (sound limits s ≡ true → TestPassed limits s c → P (add-meaning limits s (rule-of-call [] s c))) → P (answer-to limits s c)
   unfolding operation.build operation.negate operation.join operation.choose rule-of
   call-cases (build table) adds = sound-cases _ (λ e. taken-cases P s (table-fault limits s table) _ (adds e)
       (λ f _. stops (BadTable f) (λ e. absurd (let z : _≡_ {A = ℕ} 0 1 = cc in omega arith))))

@@ -6,8 +6,7 @@ use mathlib.Core.Bool.{true, cond, not, _&&_}
 use mathlib.Core.List.{List, [], _∷_}
 use borrow.Author.Tests.{ltb-true}
 use lib.ListN.{length}
-use Rattle.operations.specs.declared.answer.Built.{Built}
-use Rattle.operations.specs.Handles.{Call, build, negate, join, choose, answer-to, Pair, pair, rule-of, rule-of-call, enter, Books, first-books, opened-books, after, run, In, newest, older, HandleLaw}
+use Rattle.operations.specs.Handles.{Call, build, negate, join, choose, answer-to, Pair, pair, rule-of, rule-of-call, Books, first-books, opened-books, after, run, In, newest, older, HandleLaw}
 use Rattle.operations.specs.Kept.{AllStand, Kept}
 use Rattle.operations.specs.Rests.{Rests}
 use Rattle.operations.specs.Stands.{Stands}
@@ -24,7 +23,7 @@ use Rattle.store.proofs.SoundFacts.{sound-says}
 use Rattle.store.proofs.Tests.{first-passes, second-passes}
 use Rattle.terms.proofs.Cases.{by-eq}
 use Rattle.operations.proofs.BuiltCases.{built-cases}
-use Rattle.operations.proofs.CallCases.{Passes, call-cases}
+use Rattle.operations.proofs.CallCases.{TestPassed, call-cases}
 use Rattle.operations.proofs.MeaningAdded.{Answered, answered-alike, refused-answered, meaning-added}
 use Rattle.operations.proofs.RestsOn.{rests-not, rests-and, rests-if, handle-rests, table-rests, rests-fields}
 use Rattle.operations.proofs.StandingDiagrams.{stands-later, stands-means, stands-exact, never-stands, always-stands}
@@ -35,7 +34,7 @@ module _ {limits : Limits} {s : List ℕ} (snd : Sound limits s) where
   handle-in : (a : ℕ) → is-handle s a ≡ true → Rests s (meaning s a)
   handle-in a t = handle-rests snd a (ltb-true _ _ t)
 
-  call-rests : (c : Call) → Passes limits s c → Rests s (rule-of-call [] s c)
+  call-rests : (c : Call) → TestPassed limits s c → Rests s (rule-of-call [] s c)
   unfolding rule-of
   call-rests (build table) t = table-rests limits s table t
   call-rests (negate a) t = rests-not (handle-in a t)

@@ -1,7 +1,7 @@
 pub mod BuiltCases
 pub mod NumberedQuestions
 pub mod RestsOn
-pub mod FinishedTruth
+pub mod FinishedInStore
 pub mod StandingDiagrams
 pub mod CallCases
 pub mod MeaningAdded

@@ -27,7 +27,7 @@ use Rattle.terms.specs.Meaning.{Valuation}
 use Rattle.diagram.proofs.InsertAgain.{insert-again}
 use Rattle.diagram.proofs.InsertTree.{insert-tree}
 use Rattle.operations.proofs.BuiltCases.{not-both}
-use Rattle.operations.proofs.FinishedTruth.{finished-ascending, finished-reduced, finished-alike}
+use Rattle.operations.proofs.FinishedInStore.{finished-ascending, finished-reduced, finished-alike}
 use Rattle.operations.proofs.NumberedQuestions.{questions-same}
 use Rattle.operations.proofs.StandingDiagrams.{later-same, stands-alike, rests-later, finished-later, stands-means}
 

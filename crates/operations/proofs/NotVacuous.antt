@@ -11,7 +11,7 @@ use lib.ListN.{length}
 use Rattle.diagram.specs.Insert.{insert, new-count}
 use Rattle.diagram.specs.Inserted.{GrowsBy}
 use Rattle.diagram.specs.Questions.{finished-in}
-use Rattle.operations.specs.declared.answer.BuildFault.the-variants.{NotSound, BadTable, NoRoom}
+use Rattle.operations.specs.declared.answer.BuildFault.the-variants.{NotSound, NoRoom}
 use Rattle.operations.specs.declared.answer.Built.the-variants.{Handle, Refused}
 use Rattle.operations.specs.Handles.{Call, answer-to, opened-books, run}
 use Rattle.operations.specs.Operations as operation
@@ -28,7 +28,7 @@ use Rattle.diagram.proofs.InsertCount.{insert-count}
 use Rattle.store.proofs.SoundFacts.{sound-from}
 use Rattle.operations.proofs.BuiltCases.{not-both}
 use Rattle.operations.proofs.CallCases.{build-cases, call-cases}
-use Rattle.operations.proofs.FinishedTruth.{finished-ascending, finished-reduced}
+use Rattle.operations.proofs.FinishedInStore.{finished-ascending, finished-reduced}
 use Rattle.operations.proofs.HandleLaw.{opened-kept}
 use Rattle.operations.proofs.MeaningAdded.{added-cases}
 

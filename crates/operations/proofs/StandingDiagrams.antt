@@ -1,6 +1,6 @@
 -- Handles at which finished diagrams stand. In a later store they stand still, since it has the same questions and keeps every older handle's diagram.
 -- Two such handles are equal exactly if the meanings are: equal meanings finish alike, and one diagram has one handle.
-use Prim.Native.Nat.{ℕ, _+_, _<_}
+use Prim.Native.Nat.{ℕ}
 use mathlib.Core.Path.{_≡_, refl, sym, ap, _∙_, subst}
 use mathlib.Core.Logic.{_↔_}
 use mathlib.Core.Bool.{Bool, true, false}
@@ -13,7 +13,7 @@ use Rattle.facts.specs.State.{start}
 use Rattle.operations.specs.Later.{Later}
 use Rattle.operations.specs.Rests.{Rests}
 use Rattle.operations.specs.Stands.{Stands}
-use Rattle.store.specs.Layout.{question, used, leaves}
+use Rattle.store.specs.Layout.{question}
 use Rattle.store.specs.Meaning.{meaning}
 use Rattle.store.specs.SoundParts.{Sound}
 use Rattle.store.specs.Tree.{tree-truth}
@@ -21,7 +21,7 @@ use Rattle.terms.specs.declared.limits.Limits.{Limits}
 use Rattle.terms.specs.Meaning.{Valuation, truth}
 use Rattle.diagram.proofs.FinishTruth.{finish-constant}
 use Rattle.store.proofs.SoundTree.{meaning-is-tree, same-tree, tree-never, tree-always}
-use Rattle.operations.proofs.FinishedTruth.{finished-truth, finished-alike}
+use Rattle.operations.proofs.FinishedInStore.{finished-truth, finished-alike}
 use Rattle.operations.proofs.RestsOn.{rests-alike, rests-constant}
 
 -- ---- a store after calls

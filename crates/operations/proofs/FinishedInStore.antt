@@ -1,6 +1,6 @@
 -- The finished diagram of a meaning that rests on the list means what that meaning does: the facts are none at the start, so every choice of counts
 -- fits them, and along a path each question has its number. Meanings that are alike finish alike.
-use Prim.Native.Nat.{ℕ, suc, _+_, _≤_}
+use Prim.Native.Nat.{ℕ, suc, _≤_}
 use mathlib.Core.Path.{_≡_, refl, sym, _∙_}
 use mathlib.Core.Bool.{Bool, cond}
 use mathlib.Core.List.{List, []}
