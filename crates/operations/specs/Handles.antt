@@ -8,11 +8,11 @@ use lib.Dec.{eqb}
 use Rattle.operations.specs.declared.answer.Built.{Built}
 use Rattle.operations.specs.Built.{if-built}
 use Rattle.operations.specs.Operations as operation
-use Rattle.terms.specs.declared.limits.Limits.{Limits}
 use Rattle.store.specs.Meaning.{meaning}
 use Rattle.store.specs.Open.{opened-words}
 use Rattle.store.specs.Outcome.{Outcome}
 use Rattle.tables.specs.Rows.{rule-meaning}
+use Rattle.terms.specs.declared.limits.Limits.{Limits}
 use Rattle.terms.specs.Meaning.{Valuation}
 
 -- "The list holds build, negate, join and choose calls in any order", with any arguments
