@@ -1,9 +1,13 @@
-pub mod Refusals
-pub mod TableListed
-pub mod BuildCases
+pub mod BuiltCases
+pub mod NumberedQuestions
 pub mod RestsOn
+pub mod FinishedInStore
+pub mod StandingDiagrams
+pub mod CallCases
 pub mod MeaningAdded
+pub mod RefusedUnchanged
 pub mod HandleLaw
-pub mod BooleanLaws
+pub mod RunLater
+pub mod FormulaHandles
 pub mod NotVacuous
 pub mod WrittenAgain

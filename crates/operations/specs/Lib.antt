@@ -1,4 +1,8 @@
-pub mod Answer
-pub mod Table
+pub mod Built
 pub mod Operations
 pub mod Handles
+pub mod BooleanLaws
+pub mod Rests
+pub mod Later
+pub mod Stands
+pub mod Kept

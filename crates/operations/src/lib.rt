@@ -1,4 +1,7 @@
-// Build, negate, join and choose.
+// What build, negate, join and choose answer.
 mod answer;
 
+pub use answer::BuildFault;
 pub use answer::Built;
+pub use answer::built_number;
+pub use answer::built_result;

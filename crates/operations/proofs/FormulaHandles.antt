@@ -6,14 +6,17 @@ use mathlib.Core.Bool.{cond, not, _&&_}
 use mathlib.Core.List.{List}
 use lib.ListN.{length}
 use Rattle.operations.specs.declared.answer.Built.the-variants.{Handle}
-use Rattle.operations.specs.Handles.{Call, negate, join, choose, answer-to, Rule, pair, first-ledger, rule-of, rule-of-call, Books, after, run, Formula, formula-truth, BooleanLaw, Worked, is-letter, is-never, is-always, is-not, is-and, is-if, meanwhile}
-use Rattle.terms.specs.declared.limits.Limits.{Limits}
-use Rattle.store.specs.declared.opening.Opened.the-variants.{Accepted}
+use Rattle.operations.specs.BooleanLaws.{Formula, formula-truth, BooleanLaw, Worked, is-letter, is-never, is-always, is-not, is-and, is-if, meanwhile}
+use Rattle.operations.specs.Handles.{Call, negate, join, choose, answer-to, Rule, pair, rule-of, rule-of-call, Books, opened-books, after, run}
+use Rattle.operations.specs.Kept.{Kept}
+use Rattle.operations.specs.Stands.{Stands}
+use Rattle.store.specs.declared.answer.Opened.the-variants.{Accepted}
 use Rattle.store.specs.Meaning.{meaning}
-use Rattle.store.specs.Open.{opening, opened-words}
+use Rattle.store.specs.Open.{opening}
+use Rattle.terms.specs.declared.limits.Limits.{Limits}
 use Rattle.terms.specs.Meaning.{Valuation}
-use Rattle.operations.proofs.HandleLaw.{Kept, rule-is-meaning, call-answered, kept-after, opened-kept}
-use Rattle.operations.proofs.MeaningAdded.{Stands, stands-alike, stands-later, stands-means, stands-exact, never-stands, always-stands}
+use Rattle.operations.proofs.HandleLaw.{rule-is-meaning, call-answered, kept-after, opened-kept}
+use Rattle.operations.proofs.StandingDiagrams.{stands-alike, stands-later, stands-means, stands-exact, never-stands, always-stands}
 
 -- a formula's truth under a choice of counts, each letter having the meaning of its handle at the start
 abbrev rule-worked : (ℕ → ℕ) → Books → Formula → Rule
@@ -24,7 +27,7 @@ record Works (limits : Limits) (rule : Rule) (h : ℕ) (b : Books) : Type 0 wher
   stands : Stands (b .words) h rule
 
 -- an accepted call for a meaning
-call-works : {limits : Limits} {b : Books} → Kept limits b → (c : Call) (h : ℕ) → answer-to limits c (b .words) .answer ≡ Handle h
+call-works : {limits : Limits} {b : Books} → Kept limits b → (c : Call) (h : ℕ) → answer-to limits (b .words) c .answer ≡ Handle h
     → {rule : Rule} → ((v : Valuation) → rule-of-call (b .ledger) (b .words) c v ≡ rule v) → Works limits rule h (after limits b c)
 call-works k c h e alike = record { kept = kept-after k c; stands = stands-alike alike (call-answered k c .stands h e) }
 
@@ -65,7 +68,7 @@ module _ {limits : Limits} {letters : ℕ → ℕ} {start : Books} (kept-start :
 -- Worked out after any list of calls on a store that open has just accepted.
 pub boolean-law : (limits : Limits) (n : ℕ) (list s : List ℕ) → opening limits n list (length s) ≡ Accepted → (calls : List Call)
     → (letters : ℕ → ℕ) (f g : Formula) → BooleanLaw f g → (h k : ℕ) (b : Books)
-    → Worked limits letters (run limits (record { words = opened-words n list (length s); ledger = first-ledger }) calls) f h b
-    → Worked limits letters (run limits (record { words = opened-words n list (length s); ledger = first-ledger }) calls) g k b
+    → Worked limits letters (run limits (opened-books n list (length s)) calls) f h b
+    → Worked limits letters (run limits (opened-books n list (length s)) calls) g k b
     → h ≡ k
 boolean-law limits n list s e calls letters f g law h k b w u = kept-boolean-law (opened-kept limits n list s e calls) {f = f} {g = g} law w u
