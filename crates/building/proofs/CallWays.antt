@@ -3,14 +3,13 @@
 use Prim.Native.Nat.{ℕ, _+_, _≤_, _<_}
 use mathlib.Core.Path.{_≡_, refl, sym, ap, _∙_}
 use mathlib.Core.Bool.{Bool, true, false, cond, not, _&&_, and-true, and-false}
-use mathlib.Core.List.{List, []}
+use mathlib.Core.List.{List}
 use mathlib.Core.Option.{Option, none, some}
 use native.Mathlib.Omega.{arith}
 use borrow.Author.Tests.{ltb-true, lt-ltb}
 use lib.Dec.{eqb}
 use lib.ListN.{length}
 use Rattle.building.specs.Needs.{are-handles, CanChoose}
-use Rattle.diagram.specs.Questions.{questions}
 use Rattle.inserting.specs.Needs.{CanAdd}
 use Rattle.inserting.specs.SubjectMeaning.{choice}
 use Rattle.operations.specs.declared.answer.BuildFault.the-variants.{NotSound, NoHandle, BadTable}
@@ -30,15 +29,14 @@ use Rattle.terms.specs.declared.limits.Limits.{Limits}
 use Rattle.terms.specs.Meaning.{Valuation}
 use Rattle.terms.specs.Needs.{FitLimits}
 use Rattle.walking.specs.declared.subject.Subject.the-variants.{Table, Choice}
-use Rattle.diagram.proofs.FinishTruth.{finish-same}
+use Rattle.operations.proofs.FinishedInStore.{finished-alike}
 use Rattle.store.proofs.Handles.{leaf-stays}
 use Rattle.store.proofs.SoundFacts.{sound-says}
 use Rattle.store.proofs.Tests.{passes}
 
 -- ---- the choice of three handles
-module _ {limits : Limits} {s : List ℕ} {a b c : ℕ} (can : CanChoose limits s a b c) where
-  pub choice-adds : (source : List ℕ) → CanAdd limits s source (Choice a b c)
-  choice-adds source = record { fit = can .fit; is-sound = can .is-sound; given = record { taken = (can .first-in, can .second-in, can .third-in) } }
+pub choice-adds : {limits : Limits} {s : List ℕ} {a b c : ℕ} → CanChoose limits s a b c → (source : List ℕ) → CanAdd limits s source (Choice a b c)
+choice-adds can source = record { fit = can .fit; is-sound = can .is-sound; given = record { taken = (can .first-in, can .second-in, can .third-in) } }
 
 -- ---- not and and, as choices
 module _ (limits : Limits) (s : List ℕ) where
@@ -57,7 +55,7 @@ module _ (limits : Limits) (s : List ℕ) where
   is-and false y = refl
 
   same-added : (means others : Valuation → Bool) → ((v : Valuation) → means v ≡ others v) → add-meaning limits s means ≡ add-meaning limits s others
-  same-added means others e = ap (added limits s) (finish-same (questions s) 1 [] means others refl (λ v _. e v))
+  same-added means others e = ap (added limits s) (finished-alike s means others e)
 
   leaf-handle : (leaf : ℕ) → leaf < leaves → is-handle s leaf ≡ true
   leaf-handle leaf h = lt-ltb leaf (used s + leaves) (omega arith)
