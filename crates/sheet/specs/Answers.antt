@@ -1,20 +1,20 @@
 -- "An answer is a number and a result. Number 0 is success." Which number and result each operation's answer has.
 use Prim.Native.Nat.{ℕ}
-use Rattle.examples.specs.declared.giving.Example.{Example}
+use Rattle.examples.specs.declared.answer.Example.{Example}
 use Rattle.examples.specs.Example.{example-number}
 use Rattle.operations.specs.declared.answer.Built.{Built}
-use Rattle.operations.specs.Answer.{built-number, built-result}
+use Rattle.operations.specs.Built.{built-number, built-result}
 use Rattle.sheet.specs.declared.answers.Answer.{Answer}
 use Rattle.sheet.specs.declared.answers.Simplified.{Simplified}
 use Rattle.reading.specs.declared.answer.Read.{Read}
 use Rattle.reading.specs.Read.{read-number, read-result}
-use Rattle.store.specs.declared.opening.Opened.{Opened}
-use Rattle.store.specs.Open.{open-number}
-use Rattle.tables.specs.declared.answer.Written.{Written}
-use Rattle.tables.specs.WriteBack.{written-number, written-result}
+use Rattle.store.specs.declared.answer.Opened.{Opened}
+use Rattle.store.specs.Opened.{open-number}
 use Rattle.terms.specs.declared.simplification.Answer as terms
-use Rattle.verdicts.specs.declared.deciding.Verdict.{Verdict}
+use Rattle.verdicts.specs.declared.answer.Verdict.{Verdict}
 use Rattle.verdicts.specs.Verdict.{verdict-number, verdict-result}
+use Rattle.writing.specs.declared.answer.Written.{Written}
+use Rattle.writing.specs.WriteBack.{written-number, written-result}
 
 abbrev pub answer : ℕ → ℕ → Answer
 answer number result = record { number = number; result = result }

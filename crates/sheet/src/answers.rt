@@ -1,22 +1,22 @@
 // Answers in document 01's numbers, laid out as C reads them.
 ghost use mathlib.Core.Path.{_≡_};
 ghost use Rattle.sheet.specs.Answers as spec;
-use building::built_number;
-use building::built_result;
 use examples::Example;
 use examples::example_number;
 use operations::Built;
+use operations::built_number;
+use operations::built_result;
 use reading::Read;
 use reading::read_number;
 use reading::read_result;
 use store::Opened;
 use store::open_number;
-use tables::Written;
-use tables::written_number;
-use tables::written_result;
 use verdicts::Verdict;
 use verdicts::verdict_number;
 use verdicts::verdict_result;
+use writing::Written;
+use writing::written_number;
+use writing::written_result;
 
 // A number and a result.
 #[repr(C)]

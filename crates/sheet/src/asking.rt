@@ -1,13 +1,13 @@
 // The operations that leave the store as it is, from C.
 ghost use mathlib.Core.Path.{_≡_};
 ghost use Rattle.examples.specs.Example.{example};
+ghost use Rattle.reading.specs.Read.{read-sheet};
 ghost use Rattle.sheet.specs.Answered.{answered};
 ghost use Rattle.sheet.specs.Answers as spec;
-ghost use Rattle.reading.specs.Read.{read-sheet};
-ghost use Rattle.terms.specs.Limits as limit;
 ghost use Rattle.store.specs.Outcome.{outcome};
-ghost use Rattle.tables.specs.WriteBack.{write-back};
+ghost use Rattle.terms.specs.Limits as limit;
 ghost use Rattle.verdicts.specs.Verdict.{verdict};
+ghost use Rattle.writing.specs.WriteBack.{write-back};
 use crate::answers::Answer;
 use crate::answers::example_answer;
 use crate::answers::read_answer;
@@ -15,8 +15,8 @@ use crate::answers::verdict_answer;
 use crate::answers::written_answer;
 use examples::example_of;
 use reading::read;
-use tables::write_back;
 use verdicts::verdict_of;
+use writing::write_back;
 
 // Whether a handle is never, always or sometimes true.
 #[no_mangle]

@@ -3,9 +3,9 @@ ghost use mathlib.Core.Path.{_≡_};
 ghost use Rattle.operations.specs.Operations as operation;
 ghost use Rattle.sheet.specs.Answered.{answered};
 ghost use Rattle.sheet.specs.Answers as spec;
-ghost use Rattle.terms.specs.Limits as limit;
 ghost use Rattle.store.specs.Open.{open-store};
 ghost use Rattle.store.specs.Outcome.{outcome};
+ghost use Rattle.terms.specs.Limits as limit;
 use crate::answers::Answer;
 use crate::answers::built_answer;
 use crate::answers::opened_answer;
@@ -28,34 +28,34 @@ pub extern "C" fn sheet_open(n: u32, list: &[u32], store: &mut [u32]) -> Answer
 #[no_mangle]
 pub extern "C" fn sheet_build(store: &mut [u32], rule: &[u32]) -> Answer
     ensures { λ r. ⌜ outcome r (now (store .exit))
-        ≡ answered spec.built-answer (operation.build limit.store-limits (now (rule .entry)) (now (store .entry))) ⌝ }
+        ≡ answered spec.built-answer (operation.build limit.store-limits (now (store .entry)) (now (rule .entry))) ⌝ }
 {
-    built_answer(build(rule, store))
+    built_answer(build(store, rule))
 }
 
 // Adds the diagram of not a.
 #[no_mangle]
 pub extern "C" fn sheet_negate(store: &mut [u32], a: u32) -> Answer
     ensures { λ r. ⌜ outcome r (now (store .exit))
-        ≡ answered spec.built-answer (operation.negate limit.store-limits a (now (store .entry))) ⌝ }
+        ≡ answered spec.built-answer (operation.negate limit.store-limits (now (store .entry)) a) ⌝ }
 {
-    built_answer(negate(a, store))
+    built_answer(negate(store, a))
 }
 
 // Adds the diagram of a and b.
 #[no_mangle]
 pub extern "C" fn sheet_join(store: &mut [u32], a: u32, b: u32) -> Answer
     ensures { λ r. ⌜ outcome r (now (store .exit))
-        ≡ answered spec.built-answer (operation.join limit.store-limits a b (now (store .entry))) ⌝ }
+        ≡ answered spec.built-answer (operation.join limit.store-limits (now (store .entry)) a b) ⌝ }
 {
-    built_answer(join(a, b, store))
+    built_answer(join(store, a, b))
 }
 
 // Adds the diagram of if a then b else c.
 #[no_mangle]
 pub extern "C" fn sheet_choose(store: &mut [u32], a: u32, b: u32, c: u32) -> Answer
     ensures { λ r. ⌜ outcome r (now (store .exit))
-        ≡ answered spec.built-answer (operation.choose limit.store-limits a b c (now (store .entry))) ⌝ }
+        ≡ answered spec.built-answer (operation.choose limit.store-limits (now (store .entry)) a b c) ⌝ }
 {
-    built_answer(choose(a, b, c, store))
+    built_answer(choose(store, a, b, c))
 }
