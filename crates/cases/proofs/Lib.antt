@@ -1,2 +1,3 @@
+pub mod AskingComputes
 pub mod Proved
 pub mod RunOfCases

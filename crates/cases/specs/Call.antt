@@ -6,19 +6,19 @@ use lib.IntN.{ℤ}
 use Rattle.examples.specs.Example.{example-number}
 use Rattle.examples.specs.Example as examples
 use Rattle.operations.specs.declared.answer.Built.{Built}
-use Rattle.operations.specs.Answer.{built-number, built-result}
+use Rattle.operations.specs.Built.{built-number, built-result}
 use Rattle.operations.specs.Operations as operation
 use Rattle.reading.specs.Read.{read-sheet, read-number, read-result}
-use Rattle.terms.specs.Limits.{store-limits}
-use Rattle.store.specs.Open.{open-number, open-store}
+use Rattle.store.specs.Open.{open-store}
+use Rattle.store.specs.Opened.{open-number}
 use Rattle.store.specs.Outcome as specs
-use Rattle.tables.specs.WriteBack as tables
-use Rattle.tables.specs.WriteBack.{written-number, written-result}
 use Rattle.terms.specs.declared.simplification.Answer.{Answer}
+use Rattle.terms.specs.Limits.{term-limits, store-limits}
 use Rattle.terms.specs.Simplify.{simplify-words, answer}
-use Rattle.terms.specs.Limits.{term-limits}
 use Rattle.verdicts.specs.Verdict as verdicts
 use Rattle.verdicts.specs.Verdict.{verdict-number, verdict-result}
+use Rattle.writing.specs.WriteBack as writing
+use Rattle.writing.specs.WriteBack.{written-number, written-result}
 
 -- A call of a public operation with its arguments. The store is the words that the call before left.
 pub data Call : Type 0 where
@@ -62,15 +62,15 @@ outcomes s (simplify l r ∷ calls) = simplified-as (answer (simplify-words term
 outcomes s (open-with n list ∷ calls) =
     let o = open-store store-limits n list s in
     answered (open-number (o .answer)) 0 (o .words) list ∷ outcomes (o .words) calls
-outcomes s (build table ∷ calls) = let o = operation.build store-limits table s in built-as o table ∷ outcomes (o .words) calls
-outcomes s (negate a ∷ calls) = let o = operation.negate store-limits a s in built-as o [] ∷ outcomes (o .words) calls
-outcomes s (join a b ∷ calls) = let o = operation.join store-limits a b s in built-as o [] ∷ outcomes (o .words) calls
-outcomes s (choose a b c ∷ calls) = let o = operation.choose store-limits a b c s in built-as o [] ∷ outcomes (o .words) calls
+outcomes s (build table ∷ calls) = let o = operation.build store-limits s table in built-as o table ∷ outcomes (o .words) calls
+outcomes s (negate a ∷ calls) = let o = operation.negate store-limits s a in built-as o [] ∷ outcomes (o .words) calls
+outcomes s (join a b ∷ calls) = let o = operation.join store-limits s a b in built-as o [] ∷ outcomes (o .words) calls
+outcomes s (choose a b c ∷ calls) = let o = operation.choose store-limits s a b c in built-as o [] ∷ outcomes (o .words) calls
 outcomes s (read handle sheet ∷ calls) =
     let r = read-sheet store-limits s handle sheet in
     answered (read-number r) (read-result r) s sheet ∷ outcomes s calls
 outcomes s (write-back handle out ∷ calls) =
-    let o = tables.write-back store-limits s handle out in
+    let o = writing.write-back store-limits s handle out in
     answered (written-number (o .answer)) (written-result (o .answer)) s (o .words) ∷ outcomes s calls
 outcomes s (verdict handle ∷ calls) =
     let v = verdicts.verdict store-limits s handle in

@@ -11,3 +11,4 @@ pub mod RunLater
 pub mod FormulaHandles
 pub mod NotVacuous
 pub mod WrittenAgain
+pub mod Computing

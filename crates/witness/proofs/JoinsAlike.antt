@@ -5,20 +5,23 @@ use mathlib.Core.Bool.{Bool, true, false, _&&_}
 use mathlib.Core.List.{List, [], _∷_}
 use lib.ListN.{length}
 use Rattle.operations.specs.declared.answer.Built.{Built}
-use Rattle.operations.specs.declared.answer.Built.the-variants.{Handle, NotSound, NoHandle, NoWords, NotRows, TooManyRows, BadRow, OutOfLimits as Outside, NotListed, NoRoom}
-use Rattle.operations.specs.Handles.{Call, build, join, answer-to, Rule, Pair, pair, first-ledger, rule-of, rule-of-call, enter, Books, after, run, In, newest, older}
+use Rattle.operations.specs.declared.answer.Built.the-variants.{Handle}
+use Rattle.operations.specs.Handles.{Call, build, join, answer-to, Rule, Pair, pair, first-ledger, rule-of, rule-of-call, enter, Books, opened-books, after, run, In, newest, older}
+use Rattle.operations.specs.Kept.{Kept}
 use Rattle.terms.specs.declared.limits.Limits.{Limits}
-use Rattle.store.specs.declared.opening.Opened.{Opened}
-use Rattle.store.specs.declared.opening.Opened.the-variants.{Accepted, TooManyFields, OddList, TooManyQuestions, OutOfLimits, NotSimplified, NotAbove, TooShort}
-use Rattle.store.specs.Open.{opening, opened, opened-words, open-store}
+use Rattle.store.specs.declared.answer.Opened.{Opened}
+use Rattle.store.specs.declared.answer.Opened.the-variants as opened
+use Rattle.store.specs.Open.{opening, opened-words, open-store}
+use Rattle.store.specs.Open as spec
 use Rattle.store.specs.Outcome.{Outcome, outcome}
 use Rattle.tables.specs.Rows.{rule-meaning}
 use Rattle.terms.specs.Meaning.{Valuation}
 use Rattle.witness.specs.declared.joining.Joins.{Joins}
 use Rattle.witness.specs.declared.joining.Joins.the-variants.{Refused}
-use Rattle.witness.specs.Joined.{SameHandles, if-opened, if-built, joined-both-ways}
-use Rattle.operations.proofs.HandleLaw.{Kept, rule-is-meaning, opened-kept, handle-law}
-use Rattle.operations.proofs.MeaningAdded.{stands-means}
+use Rattle.witness.specs.Joined.{SameHandles, after-opening, after-building, joined-both-ways}
+use Rattle.operations.proofs.BuiltCases.{built-cases}
+use Rattle.operations.proofs.HandleLaw.{rule-is-meaning, opened-kept, handle-law}
+use Rattle.operations.proofs.StandingDiagrams.{stands-means}
 
 and-turned : (x y : Bool) → (x && y) ≡ (y && x)
 and-turned true true = refl
@@ -41,9 +44,9 @@ known : {limits : Limits} {b : Books} → Kept limits b → (h : ℕ) (r : Rule)
 known k h r i v = sym (rule-is-meaning k h v) ∙ stands-means (k .sound) (k .each (pair h r) i) v
 
 -- ---- the five calls
-module _ (limits : Limits) (n : ℕ) (list s first second : List ℕ) (e : opening limits n list (length s) ≡ Accepted) (a b c d : ℕ) where
+module _ (limits : Limits) (n : ℕ) (list s first second : List ℕ) (e : opening limits n list (length s) ≡ opened.Accepted) (a b c d : ℕ) where
   abbrev books₀ : Books
-  books₀ = record { words = opened-words n list (length s); ledger = first-ledger }
+  books₀ = opened-books n list (length s)
 
   abbrev books₁ : Books
   books₁ = after limits books₀ (build first)
@@ -55,7 +58,7 @@ module _ (limits : Limits) (n : ℕ) (list s first second : List ℕ) (e : openi
   books₃ = after limits books₂ (join a b)
 
   abbrev answer-at : Call → Books → Built
-  answer-at call x = answer-to limits call (x .words) .answer
+  answer-at call x = answer-to limits (x .words) call .answer
 
   module _ (e₁ : answer-at (build first) books₀ ≡ Handle a) (e₂ : answer-at (build second) books₁ ≡ Handle b)
       (e₃ : answer-at (join a b) books₂ ≡ Handle c) (e₄ : answer-at (join b a) books₃ ≡ Handle d) where
@@ -100,37 +103,19 @@ module _ (limits : Limits) (n : ℕ) (list s first second : List ℕ) (e : openi
 -- ---- a claim about what follows a call, which is accepted or refused
 module _ (P : Outcome Joins → Type 0) where
   by-opened : (limits : Limits) (n : ℕ) (list s : List ℕ) (rest : List ℕ → Outcome Joins)
-      → (opening limits n list (length s) ≡ Accepted → P (rest (opened-words n list (length s)))) → P (outcome Refused s)
-      → P (if-opened (open-store limits n list s) rest)
-  unfolding open-store if-opened
+      → (opening limits n list (length s) ≡ opened.Accepted → P (rest (opened-words n list (length s)))) → P (outcome Refused s)
+      → P (after-opening (open-store limits n list s) rest)
+  unfolding open-store after-opening
   by-opened limits n list s rest goes-on stops = go (opening limits n list (length s)) refl
     where
-      go : (o : Opened) → opening limits n list (length s) ≡ o → P (if-opened (opened o n list s) rest)
-      go Accepted e = goes-on e
-      go TooManyFields e = stops
-      go OddList e = stops
-      go TooManyQuestions e = stops
-      go OutOfLimits e = stops
-      go NotSimplified e = stops
-      go NotAbove e = stops
-      go TooShort e = stops
+      go : (o : Opened) → opening limits n list (length s) ≡ o → P (after-opening (spec.opened o n list s) rest)
+      go opened.Accepted e = goes-on e
+      go (opened.Refused f) e = stops
 
   by-built : (o : Outcome Built) (rest : ℕ → List ℕ → Outcome Joins)
-      → ((h : ℕ) → o .answer ≡ Handle h → P (rest h (o .words))) → P (outcome Refused (o .words)) → P (if-built o rest)
-  unfolding if-built
-  by-built o rest goes-on stops = go (o .answer) refl
-    where
-      go : (x : Built) → o .answer ≡ x → P (if-built (outcome x (o .words)) rest)
-      go (Handle h) e = goes-on h e
-      go NotSound e = stops
-      go NoHandle e = stops
-      go NoWords e = stops
-      go NotRows e = stops
-      go TooManyRows e = stops
-      go BadRow e = stops
-      go Outside e = stops
-      go NotListed e = stops
-      go NoRoom e = stops
+      → ((h : ℕ) → o .answer ≡ Handle h → P (rest h (o .words))) → P (outcome Refused (o .words)) → P (after-building o rest)
+  unfolding after-building
+  by-built o rest goes-on stops = built-cases P (o .answer) (λ h. rest h (o .words)) (λ f. outcome Refused (o .words)) goes-on (λ f _. stops)
 
 -- ---- the five calls, as the definition has them
 abbrev Alike : Outcome Joins → Type 0

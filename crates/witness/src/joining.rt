@@ -1,7 +1,7 @@
 // Joining two rules in both orders.
 ghost use mathlib.Core.Path.{_≡_};
-ghost use Rattle.terms.specs.Limits as limit;
 ghost use Rattle.store.specs.Outcome.{outcome};
+ghost use Rattle.terms.specs.Limits as limit;
 ghost use Rattle.witness.specs.Joined.{SameHandles, joined-both-ways};
 use building::build;
 use building::join;
@@ -31,19 +31,19 @@ pub fn join_both_ways(
     let Opened::Accepted = opened else {
         return Joins::Refused;
     };
-    let one = build(first, store);
+    let one = build(store, first);
     let Built::Handle(a) = one else {
         return Joins::Refused;
     };
-    let other = build(second, store);
+    let other = build(store, second);
     let Built::Handle(b) = other else {
         return Joins::Refused;
     };
-    let forward = join(a, b, store);
+    let forward = join(store, a, b);
     let Built::Handle(c) = forward else {
         return Joins::Refused;
     };
-    let backward = join(b, a, store);
+    let backward = join(store, b, a);
     let Built::Handle(d) = backward else {
         return Joins::Refused;
     };
