@@ -1,7 +1,7 @@
 -- Every case of the table holds: what all its calls give, computed at once, is what the table expects.
 use mathlib.Core.Path.{_≡_, refl}
 use mathlib.Core.List.{List, [], _∷_, map}
-use Rattle.cases.specs.Call.{Outcome, outcomes, Case, Holds}
+use Rattle.cases.specs.Case.{CaseOutcome, outcomes, Case, CaseHolds}
 use Rattle.cases.specs.Table.{cases}
 use Rattle.cases.proofs.AskingComputes.{asking-computes}
 use Rattle.operations.proofs.Computing.{operations-compute}
@@ -10,17 +10,17 @@ abbrev pub All {ℓ} : {A : Type ℓ} → (A → Type 0) → List A → Type 0
 All P [] = Unit {0}
 All P (x ∷ xs) = P x × All P xs
 
-found : List Case → List (List Outcome)
+found : List Case → List (List CaseOutcome)
 found table = map (λ c. outcomes (c .start) (c .calls)) table
 
-wanted : List Case → List (List Outcome)
+wanted : List Case → List (List CaseOutcome)
 wanted table = map (λ c. c .expected) table
 
-each : (table : List Case) → found table ≡ wanted table → All Holds table
+each : (table : List Case) → found table ≡ wanted table → All CaseHolds table
 unfolding found wanted
 each [] e = tt
 each (c ∷ table) e = (cc, each table (cc))
 
-pub cases-hold : All Holds cases
+pub cases-hold : All CaseHolds cases
 unfolding found wanted operations-compute asking-computes
 cases-hold = each cases refl

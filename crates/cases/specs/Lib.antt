@@ -1,2 +1,2 @@
-pub mod Call
+pub mod Case
 pub mod Table

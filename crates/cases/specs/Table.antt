@@ -3,7 +3,7 @@ use Prim.Native.Nat.{ℕ}
 use mathlib.Core.List.{List, [], _∷_, _++_}
 use lib.IntN.{pos}
 use lib.ListN.{replicate}
-use Rattle.cases.specs.Call.{simplify, open-with, build, negate, join, read, write-back, verdict, example, simplified, answered, Case}
+use Rattle.cases.specs.Case.{simplify, open-with, build, negate, join, read, write-back, verdict, example, simplified, answered, Case}
 
 -- S3(1) = S1(2) simplifies to 2 = S2(1): words 2, 65, gap 2.
 abbrev pub case-1 : Case

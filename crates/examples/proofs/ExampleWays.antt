@@ -15,7 +15,7 @@ use Rattle.examples.specs.declared.best.Best as code
 use Rattle.examples.specs.Best.{sheet, none, some, best}
 use Rattle.examples.specs.Example.{given, best-sheet, example}
 use Rattle.examples.specs.ExampleSays.{ExampleSays}
-use Rattle.examples.specs.Needs.{sheet-of, best-of, CanSeek, CanWrite, CanGive}
+use Rattle.examples.specs.Needs.{sheet-of, best-of, CanSeek, CanWriteSheet, CanGive}
 use Rattle.facts.specs.declared.record.Facts.{Facts}
 use Rattle.facts.specs.Least.{IsLeast, Near}
 use Rattle.facts.specs.Needs.{state, last-field}
@@ -97,7 +97,7 @@ module _ {s : List ℕ} {handle : ℕ} {out : List ℕ} (k : CanGive s handle ou
                   product (field-count s) last-field (k .limits .terms .steps .0 + 1) (omega arith),
                 )
 
-        pub can-write : CanWrite (r .sheet) out
+        pub can-write : CanWriteSheet (r .sheet) out
         can-write = record { few = omega (arith, few-fields, k .length-is); small = λ i h j. count-small i h (omega (arith, k .length-is)) }
 
 -- ---- the operation

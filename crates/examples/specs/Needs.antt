@@ -39,7 +39,7 @@ pub record CanSeek (s : List ℕ) (handle : ℕ) (f : Facts) (n : ℕ) : Type 0 
   pub few-fields : n ≤ last-field
 
 -- the slice has a field of the sheet for each of its places, and the counts fit 16 bits
-pub record CanWrite (s : Sheet) (out : List ℕ) : Type 0 where
+pub record CanWriteSheet (s : Sheet) (out : List ℕ) : Type 0 where
   pub few : length out ≤ last-field
   pub small : (i : ℕ) → 1 ≤ i → i ≤ length out → getD (s .counts) i 0 ≤ most-count
 

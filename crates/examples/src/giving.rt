@@ -4,7 +4,7 @@ ghost use Prim.Native.Nat.{ℕ};
 ghost use lib.ListN.{length};
 ghost use Rattle.examples.specs.Best.{none};
 ghost use Rattle.examples.specs.Example as spec;
-ghost use Rattle.examples.specs.Needs.{sheet-of, best-of, CanWrite, CanGive};
+ghost use Rattle.examples.specs.Needs.{sheet-of, best-of, CanWriteSheet, CanGive};
 ghost use Rattle.store.specs.Outcome.{outcome};
 ghost use Rattle.terms.specs.Limits as limit;
 ghost use Rattle.terms.specs.Needs.{FitLimits};
@@ -36,7 +36,7 @@ fn none_yet() -> Best
 
 // Writes the counts of the fields from 1 on.
 fn write_sheet(sheet: Sheet, out: &mut [u16])
-    requires { ⌜ CanWrite sheet (now out) ⌝ }
+    requires { ⌜ CanWriteSheet sheet (now out) ⌝ }
     ensures { λ _. ⌜ now (out .exit) ≡ sheet-of (length (now (out .entry))) sheet ⌝ }
 {
     let mut i: usize = 0;

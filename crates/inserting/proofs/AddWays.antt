@@ -154,7 +154,7 @@ module _ {limits : Limits} {s source : List ℕ} {subject : Subject} (can : CanA
       pub can-restore : entries-start t + 3 * u ≤ length t
       can-restore = omega (arith, questions-agree (left .agrees), used-fits store-sound)
 
-      pub full-refused : r ≡ Full → {w : List ℕ} → w ≡ restored t u → refused w NoRoom ≡ add-meaning limits s (subject-meaning s source subject)
-      full-refused er ew =
+      pub full-restored : r ≡ Full → {w : List ℕ} → w ≡ restored t u → refused w NoRoom ≡ add-meaning limits s (subject-meaning s source subject)
+      full-restored er ew =
           ap (λ x. refused x NoRoom) (ew ∙ ap (restored t) eu ∙ restored-same s t same (left .agrees) (used-fits store-sound) (store-sound .unused-zero))
           ∙ ap (λ a. unless-full s (outcome a t)) (sym er) ∙ adds

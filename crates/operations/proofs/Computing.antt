@@ -17,12 +17,12 @@ use Rattle.tables.specs.Rows.{row-truth, row-truths}
 use Rattle.terms.specs.Form.{is-simplified}
 use Rattle.terms.specs.Meaning.{count}
 use Rattle.terms.specs.Order.{lex}
-use Rattle.terms.specs.Simplify.{simplify, larger-left, lowered, settled}
+use Rattle.terms.specs.Simplify.{simplify, larger-left, lowered, never-or-question}
 use Rattle.terms.specs.Words.{allows}
 
 -- terms and facts
 unfoldable pub facts-compute : Type 0
-unfolding is-simplified count lex simplify larger-left lowered settled allows plan decide spacing some-sheet
+unfolding is-simplified count lex simplify larger-left lowered never-or-question allows plan decide spacing some-sheet
 facts-compute = Unit {0}
 
 -- the words of a store: opening, soundness, meaning

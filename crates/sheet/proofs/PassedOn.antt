@@ -4,11 +4,11 @@ use mathlib.Core.List.{List}
 use mathlib.Core.Path.{_≡_, ap, _∙_}
 use Rattle.sheet.specs.declared.answers.Answer.{Answer}
 use Rattle.sheet.specs.Answered.{answered}
-use Rattle.sheet.specs.Answers.{answer}
+use Rattle.sheet.specs.Answers.{answer-with}
 use Rattle.store.specs.Outcome.{Outcome, outcome}
 
 -- an answer is its two numbers
-pub same-answer : {number n result r : ℕ} → number ≡ n → result ≡ r → answer number result ≡ answer n r
+pub same-answer : {number n result r : ℕ} → number ≡ n → result ≡ r → answer-with number result ≡ answer-with n r
 same-answer p q = λ i. record { number = p i; result = q i }
 
 pub passed-on : {A : Type 0} (numbers : A → Answer) {a : A} {r : Answer} {w : List ℕ} {o : Outcome A}

@@ -16,31 +16,31 @@ use Rattle.verdicts.specs.Verdict.{verdict-number, verdict-result}
 use Rattle.writing.specs.declared.answer.Written.{Written}
 use Rattle.writing.specs.WriteBack.{written-number, written-result}
 
-abbrev pub answer : ℕ → ℕ → Answer
-answer number result = record { number = number; result = result }
+abbrev pub answer-with : ℕ → ℕ → Answer
+answer-with number result = record { number = number; result = result }
 
 -- "Open and example give result 0 on success"
 abbrev pub opened-answer : Opened → Answer
-opened-answer o = answer (open-number o) 0
+opened-answer o = answer-with (open-number o) 0
 
 abbrev pub example-answer : Example → Answer
-example-answer e = answer (example-number e) 0
+example-answer e = answer-with (example-number e) 0
 
 -- "The result of these and of build is the diagram's handle."
 abbrev pub built-answer : Built → Answer
-built-answer b = answer (built-number b) (built-result b)
+built-answer b = answer-with (built-number b) (built-result b)
 
 -- "0 never, 1 always, 2 sometimes"
 abbrev pub verdict-answer : Verdict → Answer
-verdict-answer v = answer (verdict-number v) (verdict-result v)
+verdict-answer v = answer-with (verdict-number v) (verdict-result v)
 
 -- "1 if it satisfies the handle, else 0"
 abbrev pub read-answer : Read → Answer
-read-answer r = answer (read-number r) (read-result r)
+read-answer r = answer-with (read-number r) (read-result r)
 
 -- "The answer is the row count"
 abbrev pub written-answer : Written → Answer
-written-answer w = answer (written-number w) (written-result w)
+written-answer w = answer-with (written-number w) (written-result w)
 
 -- "Simplify's result is 0 never, 1 always or 2 a question, with two words and a gap beside it": the same five numbers, as C reads them
 abbrev pub simplified-answer : terms.Answer → Simplified

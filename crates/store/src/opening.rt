@@ -1,6 +1,6 @@
 // Opening a store.
 ghost use mathlib.Core.Path.{_≡_};
-ghost use mathlib.Core.List.{_∷_, _++_};
+ghost use mathlib.Core.List.{_++_};
 ghost use Prim.Native.Nat.{_+_, _*_, _/_, _<_, _≤_, _^_};
 ghost use lib.ListN.{length, take, drop};
 ghost use Rattle.terms.specs.Order.{fields-first};
@@ -12,6 +12,7 @@ use crate::answer::OpenFault;
 use crate::answer::Opened;
 use crate::words::HEADING;
 use crate::words::clear_from;
+use crate::words::write_heading;
 use terms::Equation;
 use terms::Limits;
 use terms::TermLimits;
@@ -100,16 +101,6 @@ fn first_fault(limits: Limits, n: u32, list: &[u32], words: usize) -> Opened
         return Opened::Refused(OpenFault::TooShort);
     }
     Opened::Accepted
-}
-
-// Writes the number of fields, the number of questions, and that no entries are used.
-fn write_heading(n: u32, questions: u32, store: &mut [u32])
-    requires { ⌜ heading-length ≤ length (now store) ⌝ }
-    ensures { λ _. ⌜ now (store .exit) ≡ n ∷ questions ∷ 0 ∷ drop heading-length (now (store .entry)) ⌝ }
-{
-    store[0] = n;
-    store[1] = questions;
-    store[2] = 0;
 }
 
 // Writes the list behind the heading.

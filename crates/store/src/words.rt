@@ -1,7 +1,8 @@
 // The words of a store, one by one: nothing outside this crate indexes them.
 ghost use mathlib.Core.Path.{_≡_};
+ghost use mathlib.Core.List.{_∷_};
 ghost use Prim.Native.Nat.{_+_, _≤_};
-ghost use lib.ListN.{length, getD};
+ghost use lib.ListN.{length, getD, drop};
 ghost use Rattle.store.specs.Layout as layout;
 ghost use Rattle.store.specs.Needs.{HasQuestion};
 use terms::Equation;
@@ -51,6 +52,16 @@ pub fn set_used(store: &mut [u32], entries: u32)
     ensures { λ _. ⌜ now (store .exit) ≡ layout.with-used (now (store .entry)) entries ⌝ }
 {
     store[2] = entries;
+}
+
+// Writes the number of fields, the number of questions, and that no entries are used.
+pub fn write_heading(n: u32, questions: u32, store: &mut [u32])
+    requires { ⌜ layout.heading-length ≤ length (now store) ⌝ }
+    ensures { λ _. ⌜ now (store .exit) ≡ n ∷ questions ∷ 0 ∷ drop layout.heading-length (now (store .entry)) ⌝ }
+{
+    store[0] = n;
+    store[1] = questions;
+    store[2] = 0;
 }
 
 // Whether a handle is one of the store's.

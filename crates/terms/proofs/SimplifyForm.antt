@@ -14,10 +14,10 @@ use Rattle.terms.specs.declared.term.Equation.{Equation}
 use Rattle.terms.specs.declared.simplification.Guard.{Guard}
 use Rattle.terms.specs.declared.simplification.Guard.the-variants.{Never, Always, Question}
 use Rattle.terms.specs.Form.{is-simplified, SimplifiedForm, is-number, is-above, is-below}
-use Rattle.terms.specs.Simplify.{turned, larger-left, lowered, settled, simplify, gap}
+use Rattle.terms.specs.Simplify.{turned, larger-left, lowered, never-or-question, simplify, gap}
 use Rattle.terms.proofs.Cases.{by-eq, by-lt}
 use Rattle.terms.proofs.Gap.{difference-abs}
-use Rattle.terms.proofs.SimplifyCases.{Sorted, kept, swapped, settled-cases, simplify-cases}
+use Rattle.terms.proofs.SimplifyCases.{Sorted, kept, swapped, never-or-question-cases, simplify-cases}
 use Rattle.terms.proofs.SimplifyTruth.{same-test}
 
 -- ---- the forms
@@ -39,14 +39,14 @@ IfQuestion P Never = Unit {0}
 IfQuestion P Always = Unit {0}
 IfQuestion P (Question q) = P q
 
-settled-form : (d : Equation) → d .right .field .0 < d .left .field .0 → IfQuestion SimplifiedForm (settled (lowered d))
+settled-form : (d : Equation) → d .right .field .0 < d .left .field .0 → IfQuestion SimplifiedForm (never-or-question (lowered d))
 unfolding lowered
-settled-form d h = settled-cases (IfQuestion SimplifiedForm) (lowered d) (λ _ _. tt) (λ z. by-numbers (lowered d) h (omega arith) z)
+settled-form d h = never-or-question-cases (IfQuestion SimplifiedForm) (lowered d) (λ _ _. tt) (λ z. by-numbers (lowered d) h (omega arith) z)
 
 simplify-form : (e : Equation) → IfQuestion SimplifiedForm (simplify e)
 simplify-form e = simplify-cases (IfQuestion SimplifiedForm) e (λ _ _. tt) (λ _ _. tt) go
   where
-    go : (d : Equation) → Sorted e d → IfQuestion SimplifiedForm (settled (lowered d))
+    go : (d : Equation) → Sorted e d → IfQuestion SimplifiedForm (never-or-question (lowered d))
     go d (kept h) = settled-form e h
     go d (swapped h) = settled-form (turned e) h
 
@@ -79,8 +79,8 @@ module _ (q : Equation) where
   unfolding lowered
   stays-lowered m = simp (m, sub-zero)
 
-  stays-settled : (q .right .field .0 ≡ 0 → q .left .steps .0 ≡ 0) → settled q ≡ Question q
-  stays-settled z = settled-cases (λ g. g ≡ Question q) q (λ o h. absurd (omega (arith, z o))) (λ _. refl)
+  stays-settled : (q .right .field .0 ≡ 0 → q .left .steps .0 ≡ 0) → never-or-question q ≡ Question q
+  stays-settled z = never-or-question-cases (λ g. g ≡ Question q) q (λ o h. absurd (omega (arith, z o))) (λ _. refl)
 
   -- "and simplifies to itself"
   pub simplified-stays : SimplifiedForm q → simplify q ≡ Question q
@@ -127,8 +127,8 @@ pub simplify-turned : (e : Equation) → simplify (turned e) ≡ simplify e
 unfolding simplify
 simplify-turned e =
     rw (eqb-sym (e .right .field .0) (e .left .field .0), eqb-sym (e .right .steps .0) (e .left .steps .0))
-    (by-eq (λ t. cond t same (settled (lowered (larger-left (turned e)))) ≡ cond t same (settled (lowered (larger-left e))))
-    (e .left .field .0) (e .right .field .0) (λ _. refl) (λ n. ap (λ d. settled (lowered d)) (sorted-turned e n)))
+    (by-eq (λ t. cond t same (never-or-question (lowered (larger-left (turned e)))) ≡ cond t same (never-or-question (lowered (larger-left e))))
+    (e .left .field .0) (e .right .field .0) (λ _. refl) (λ n. ap (λ d. never-or-question (lowered d)) (sorted-turned e n)))
   where
     same : Guard
     same = cond (eqb (e .left .steps .0) (e .right .steps .0)) Always Never
@@ -142,9 +142,9 @@ simplify-steps : (n : ℕ) (e : Equation) → e .left .steps .0 ≤ n → e .rig
 unfolding lowered
 simplify-steps n e h k = simplify-cases (StepsUpTo n) e (λ _ _. tt) (λ _ _. tt) go
   where
-    go : (d : Equation) → Sorted e d → StepsUpTo n (settled (lowered d))
-    go d (kept _) = settled-cases (StepsUpTo n) (lowered e) (λ _ _. tt) (λ _. omega arith)
-    go d (swapped _) = settled-cases (StepsUpTo n) (lowered (turned e)) (λ _ _. tt) (λ _. omega arith)
+    go : (d : Equation) → Sorted e d → StepsUpTo n (never-or-question (lowered d))
+    go d (kept _) = never-or-question-cases (StepsUpTo n) (lowered e) (λ _ _. tt) (λ _. omega arith)
+    go d (swapped _) = never-or-question-cases (StepsUpTo n) (lowered (turned e)) (λ _ _. tt) (λ _. omega arith)
 
 -- "a signed number from -255 to 255"
 pub gap-within : (n : ℕ) (e q : Equation) → e .left .steps .0 ≤ n → e .right .steps .0 ≤ n → simplify e ≡ Question q → natAbs (gap q) ≤ n

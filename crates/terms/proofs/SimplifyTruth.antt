@@ -11,9 +11,9 @@ use lib.IntN.{ℤ, pos, negℤ, _+ℤ_, _-ℤ_, +ℤ-assoc, +ℤ-negℤ-cancel, 
 use Rattle.terms.specs.declared.term.Field.{Field}
 use Rattle.terms.specs.declared.term.Equation.{Equation}
 use Rattle.terms.specs.Meaning.{Valuation, count, value, truth, guard-truth}
-use Rattle.terms.specs.Simplify.{turned, lowered, settled, simplify, gap}
+use Rattle.terms.specs.Simplify.{turned, lowered, never-or-question, simplify, gap}
 use Rattle.terms.proofs.Cases.{by-eq}
-use Rattle.terms.proofs.SimplifyCases.{Sorted, kept, swapped, settled-cases, simplify-cases}
+use Rattle.terms.proofs.SimplifyCases.{Sorted, kept, swapped, never-or-question-cases, simplify-cases}
 
 -- two comparisons with the same outcome
 pub same-test : (a b c d : ℕ) → (a ≡ b → c ≡ d) → (c ≡ d → a ≡ b) → eqb a b ≡ eqb c d
@@ -31,9 +31,9 @@ module _ (v : Valuation) (e : Equation) where
   unfolding lowered
   lowered-truth = same-test (value v (lowered e .left)) (value v (lowered e .right)) (value v (e .left)) (value v (e .right)) (λ h. omega arith) (λ h. omega arith)
 
-  settled-truth : guard-truth v (settled (lowered e)) ≡ truth v e
+  lowered-guard-truth : guard-truth v (never-or-question (lowered e)) ≡ truth v e
   unfolding lowered
-  settled-truth = settled-cases (λ g. guard-truth v g ≡ truth v e) (lowered e)
+  lowered-guard-truth = never-or-question-cases (λ g. guard-truth v g ≡ truth v e) (lowered e)
       (λ z h. let n : value v (e .left) ≢ value v (e .right) = λ i. omega (arith, count-zero v (e .right .field) z) in sym (ne-eqb _ _ n))
       (λ _. lowered-truth)
 
@@ -47,9 +47,9 @@ simplify-truth v e = simplify-cases (λ g. guard-truth v g ≡ truth v e) e
     same-count : e .left .field .0 ≡ e .right .field .0 → count v (e .left .field) ≡ count v (e .right .field)
     same-count f = ap (λ n. count v (record { 0 = n })) f
 
-    go : (d : Equation) → Sorted e d → guard-truth v (settled (lowered d)) ≡ truth v e
-    go d (kept _) = settled-truth v e
-    go d (swapped _) = settled-truth v (turned e) ∙ turned-truth v e
+    go : (d : Equation) → Sorted e d → guard-truth v (never-or-question (lowered d)) ≡ truth v e
+    go d (kept _) = lowered-guard-truth v e
+    go d (swapped _) = lowered-guard-truth v (turned e) ∙ turned-truth v e
 
 -- left count + left steps = right count + right steps, said with the difference of the steps
 module _ (a b l r : ℕ) where

@@ -12,10 +12,10 @@ use Rattle.terms.specs.declared.simplification.Guard.{Guard}
 use Rattle.terms.specs.declared.simplification.Guard.the-variants.{Never, Always, Question}
 use Rattle.terms.specs.declared.simplification.Simplified.the-variants as answer
 use Rattle.terms.specs.Meaning.{Valuation, count, truth, guard-truth, Tells}
-use Rattle.terms.specs.Simplify.{turned, lowered, settled, simplify, gap, shown, simplify-words}
+use Rattle.terms.specs.Simplify.{turned, lowered, never-or-question, simplify, gap, shown, simplify-words}
 use Rattle.terms.specs.Words.{step-weight, field, steps, term, equation, term-of, word-of, allows}
 use Rattle.terms.proofs.Cases.{by-test}
-use Rattle.terms.proofs.SimplifyCases.{Sorted, kept, swapped, settled-cases, simplify-cases}
+use Rattle.terms.proofs.SimplifyCases.{Sorted, kept, swapped, never-or-question-cases, simplify-cases}
 use Rattle.terms.proofs.SimplifyTruth.{simplify-truth, gap-says}
 
 pub word-of-term-of : (w : ℕ) → word-of (term-of w) ≡ w
@@ -43,9 +43,9 @@ simplify-wordy : (e : Equation) → Wordy e → WordyGuard (simplify e)
 unfolding lowered
 simplify-wordy e w = simplify-cases WordyGuard e (λ _ _. tt) (λ _ _. tt) go
   where
-    go : (d : Equation) → Sorted e d → WordyGuard (settled (lowered d))
-    go d (kept _) = settled-cases WordyGuard (lowered e) (λ _ _. tt) (λ _. w)
-    go d (swapped _) = settled-cases WordyGuard (lowered (turned e)) (λ _ _. tt) (λ _. (w .1, w .0))
+    go : (d : Equation) → Sorted e d → WordyGuard (never-or-question (lowered d))
+    go d (kept _) = never-or-question-cases WordyGuard (lowered e) (λ _ _. tt) (λ _. w)
+    go d (swapped _) = never-or-question-cases WordyGuard (lowered (turned e)) (λ _ _. tt) (λ _. (w .1, w .0))
 
 shown-tells : (v : Valuation) (g : Guard) (b : Bool) → WordyGuard g → guard-truth v g ≡ b → Tells v (shown g) b
 shown-tells v Never b w e = sym e

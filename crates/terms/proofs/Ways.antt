@@ -20,8 +20,8 @@ use Rattle.terms.specs.declared.simplification.Simplified.{Simplified}
 use Rattle.terms.specs.declared.simplification.Simplified.the-variants.{Refused, Never, Always, Question}
 use Rattle.terms.specs.Words.{equation, term-of, word-of, allows}
 use Rattle.terms.specs.Needs.{HasWords}
-use Rattle.terms.specs.Simplify.{turned, larger-left, less-steps, lowered, settled, simplify, gap, shown, simplify-words, answer}
-use Rattle.terms.proofs.SimplifyCases.{Sorted, kept, swapped, settled-cases, simplify-cases}
+use Rattle.terms.specs.Simplify.{turned, larger-left, less-steps, lowered, never-or-question, simplify, gap, shown, simplify-words, answer}
+use Rattle.terms.proofs.SimplifyCases.{Sorted, kept, swapped, never-or-question-cases, simplify-cases}
 
 module _ (limits : TermLimits) (t : Term) where
   pub above-field : limits .field .0 < t .field .0 → false ≡ allows limits t
@@ -46,17 +46,17 @@ module _ (e : Equation) where
   unfolding lowered
   lowers d p q = simp (p, q, d)
 
-  pub settled-number : e .right .field .0 ≡ 0 → 0 < e .left .steps .0 → guard.Never ≡ settled e
-  unfolding settled
-  settled-number z h = simp (eq-eqb _ _ z, lt-ltb _ _ h)
+  pub number-never : e .right .field .0 ≡ 0 → 0 < e .left .steps .0 → guard.Never ≡ never-or-question e
+  unfolding never-or-question
+  number-never z h = simp (eq-eqb _ _ z, lt-ltb _ _ h)
 
-  pub settled-plain : e .right .field .0 ≡ 0 → e .left .steps .0 ≤ 0 → guard.Question e ≡ settled e
-  unfolding settled
-  settled-plain z h = simp (eq-eqb _ _ z, le-ltb _ _ h)
+  pub number-question : e .right .field .0 ≡ 0 → e .left .steps .0 ≤ 0 → guard.Question e ≡ never-or-question e
+  unfolding never-or-question
+  number-question z h = simp (eq-eqb _ _ z, le-ltb _ _ h)
 
-  pub settled-field : e .right .field .0 ≢ 0 → guard.Question e ≡ settled e
-  unfolding settled
-  settled-field z = simp (ne-eqb _ _ z)
+  pub field-question : e .right .field .0 ≢ 0 → guard.Question e ≡ never-or-question e
+  unfolding never-or-question
+  field-question z = simp (ne-eqb _ _ z)
 
   pub same-steps : e .left .field .0 ≡ e .right .field .0 → e .left .steps .0 ≡ e .right .steps .0 → guard.Always ≡ simplify e
   unfolding simplify
@@ -67,7 +67,7 @@ module _ (e : Equation) where
   other-steps f s = simp (eq-eqb _ _ f, ne-eqb _ _ s)
 
   pub other-fields : {d k : Equation} {g : Guard} → e .left .field .0 ≢ e .right .field .0
-      → d ≡ larger-left e → k ≡ lowered d → g ≡ settled k → g ≡ simplify e
+      → d ≡ larger-left e → k ≡ lowered d → g ≡ never-or-question k → g ≡ simplify e
   unfolding simplify
   other-fields f p q r = simp (ne-eqb _ _ f, ← p, ← q) r
 
@@ -79,9 +79,9 @@ lowered-words d h k = omega arith
 pub simplify-words-fit : (e : Equation) → word-of (e .left) < 2 ^ 32 → word-of (e .right) < 2 ^ 32 → HasWords (simplify e)
 simplify-words-fit e h k = simplify-cases HasWords e (λ _ _. tt) (λ _ _. tt) go
   where
-    go : (d : Equation) → Sorted e d → HasWords (settled (lowered d))
-    go d (kept _) = settled-cases HasWords (lowered d) (λ _ _. tt) (λ _. lowered-words e h k)
-    go d (swapped _) = settled-cases HasWords (lowered d) (λ _ _. tt) (λ _. lowered-words (turned e) k h)
+    go : (d : Equation) → Sorted e d → HasWords (never-or-question (lowered d))
+    go d (kept _) = never-or-question-cases HasWords (lowered d) (λ _ _. tt) (λ _. lowered-words e h k)
+    go d (swapped _) = never-or-question-cases HasWords (lowered d) (λ _ _. tt) (λ _. lowered-words (turned e) k h)
 
 -- ---- a question's words and gap
 module _ {g : Guard} {q : Equation} (e : g ≡ guard.Question q) where

@@ -31,15 +31,15 @@ lowered e =
     equation (less-steps k (e .left)) (less-steps k (e .right))
 
 -- "If the right field is then 0 and steps remain on the left, the equation is never. All else is a question."
-unfoldable pub settled : Equation → Guard
-settled e = cond (eqb (e .right .field .0) 0 && ltb 0 (e .left .steps .0)) guard.Never (guard.Question e)
+unfoldable pub never-or-question : Equation → Guard
+never-or-question e = cond (eqb (e .right .field .0) 0 && ltb 0 (e .left .steps .0)) guard.Never (guard.Question e)
 
 -- "Same field on both sides: always if the steps are equal, else never."
 unfoldable pub simplify : Equation → Guard
 simplify e =
     cond (eqb (e .left .field .0) (e .right .field .0))
     (cond (eqb (e .left .steps .0) (e .right .steps .0)) guard.Always guard.Never)
-    (settled (lowered (larger-left e)))
+    (never-or-question (lowered (larger-left e)))
 
 -- "Its gap, right steps minus left steps, is a signed number"
 abbrev pub gap : Equation → ℤ

@@ -85,8 +85,8 @@ fn lowered(e: Equation) -> Equation
 }
 
 // Of two different fields, the larger on the left and one side with no steps: never, or a question.
-fn settled(e: Equation) -> Guard
-    ensures { λ r. ⌜ r ≡ spec.settled e ⌝ }
+fn never_or_question(e: Equation) -> Guard
+    ensures { λ r. ⌜ r ≡ spec.never-or-question e ⌝ }
 {
     if e.right.field.0 == 0 {
         if 0 < e.left.steps.0 {
@@ -106,7 +106,7 @@ pub fn simplify_equation(e: Equation) -> Guard
         }
         return Guard::Never;
     }
-    settled(lowered(larger_left(e)))
+    never_or_question(lowered(larger_left(e)))
 }
 
 // A question's gap, right steps minus left steps.

@@ -1,6 +1,6 @@
 -- `add` meets its contract: the walk's handle is the answer, and a full store is put back as it came.
 use borrow.Author.Needs.{needs}
-use Rattle.inserting.proofs.AddWays.{heading-in, can-walk-all, added-at, can-restore, full-refused}
+use Rattle.inserting.proofs.AddWays.{heading-in, can-walk-all, added-at, can-restore, full-restored}
 use Rattle.inserting.proofs.adding.add.Statement.{statement}
 use Rattle.inserting.proofs.adding.add.Tie as tie
 
@@ -29,7 +29,7 @@ same-length-2 : tie.Need-same-length-2
 same-length-2 c = search needs
 
 returns-2 : tie.Need-returns-2
-returns-2 c = search (needs, full-refused)
+returns-2 c = search (needs, full-restored)
 
 pub add-spec : {M : Type 1} → statement M
 add-spec =

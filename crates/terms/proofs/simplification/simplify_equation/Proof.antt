@@ -16,8 +16,8 @@ larger-left-requires c κs = search needs
 lowered-requires : tie.Need-lowered-requires
 lowered-requires c κs = search needs
 
-settled-requires : tie.Need-settled-requires
-settled-requires c κs = search needs
+never-or-question-requires : tie.Need-never-or-question-requires
+never-or-question-requires c κs = search needs
 
 returns-3 : tie.Need-returns-3
 returns-3 c = search (needs, other-fields)
@@ -25,4 +25,4 @@ returns-3 c = search (needs, other-fields)
 pub simplify-equation-spec : {M : Type 1} → statement M
 simplify-equation-spec =
     tie.close
-    (tie.spec returns returns-2 larger-left-requires lowered-requires settled-requires returns-3)
+    (tie.spec returns returns-2 larger-left-requires lowered-requires never-or-question-requires returns-3)

@@ -21,42 +21,42 @@ use Rattle.writing.specs.WriteBack as writing
 use Rattle.writing.specs.WriteBack.{written-number, written-result}
 
 -- A call of a public operation with its arguments. The store is the words that the call before left.
-pub data Call : Type 0 where
+pub data CaseCall : Type 0 where
   -- the two term words
-  simplify : ℕ → ℕ → Call
+  simplify : ℕ → ℕ → CaseCall
   -- n and the list
-  open-with : ℕ → List ℕ → Call
+  open-with : ℕ → List ℕ → CaseCall
   -- the words of a rule table
-  build : List ℕ → Call
+  build : List ℕ → CaseCall
   -- handles
-  negate : ℕ → Call
-  join : ℕ → ℕ → Call
-  choose : ℕ → ℕ → ℕ → Call
+  negate : ℕ → CaseCall
+  join : ℕ → ℕ → CaseCall
+  choose : ℕ → ℕ → ℕ → CaseCall
   -- a handle, and the sheet
-  read : ℕ → List ℕ → Call
+  read : ℕ → List ℕ → CaseCall
   -- a handle, and the words lent for the rows
-  write-back : ℕ → List ℕ → Call
+  write-back : ℕ → List ℕ → CaseCall
   -- a handle
-  verdict : ℕ → Call
+  verdict : ℕ → CaseCall
   -- a handle, and the words lent for the sheet
-  example : ℕ → List ℕ → Call
+  example : ℕ → List ℕ → CaseCall
 
 -- What a call leaves: its answer, and every word lent to it.
-pub data Outcome : Type 0 where
+pub data CaseOutcome : Type 0 where
   -- simplify's number, result, two words and gap
-  simplified : ℕ → ℕ → ℕ → ℕ → ℤ → Outcome
+  simplified : ℕ → ℕ → ℕ → ℕ → ℤ → CaseOutcome
   -- number, result, the store's words, and the other words lent
-  answered : ℕ → ℕ → List ℕ → List ℕ → Outcome
+  answered : ℕ → ℕ → List ℕ → List ℕ → CaseOutcome
 
-abbrev simplified-as : Answer → Outcome
+abbrev simplified-as : Answer → CaseOutcome
 simplified-as a = simplified (a .number) (a .result) (a .left) (a .right) (a .gap)
 
 -- what a call that may add entries leaves, with the other words lent
-abbrev built-as : specs.Outcome Built → List ℕ → Outcome
+abbrev built-as : specs.Outcome Built → List ℕ → CaseOutcome
 built-as o lent = answered (built-number (o .answer)) (built-result (o .answer)) (o .words) lent
 
 -- What the calls leave one after the other, each by the definition that its function's promise names.
-abbrev pub outcomes : List ℕ → List Call → List Outcome
+abbrev pub outcomes : List ℕ → List CaseCall → List CaseOutcome
 outcomes s [] = []
 outcomes s (simplify l r ∷ calls) = simplified-as (answer (simplify-words term-limits l r)) ∷ outcomes s calls
 outcomes s (open-with n list ∷ calls) =
@@ -82,8 +82,8 @@ outcomes s (example handle out ∷ calls) =
 -- A row of the table: the store's words at the start, the calls, and what each must leave.
 pub record Case : Type 0 where
   pub start : List ℕ
-  pub calls : List Call
-  pub expected : List Outcome
+  pub calls : List CaseCall
+  pub expected : List CaseOutcome
 
-abbrev pub Holds : Case → Type 0
-Holds c = outcomes (c .start) (c .calls) ≡ c .expected
+abbrev pub CaseHolds : Case → Type 0
+CaseHolds c = outcomes (c .start) (c .calls) ≡ c .expected

@@ -3,8 +3,8 @@ use native.Mathlib.Omega.{arith}
 use borrow.Author.Needs.{needs}
 use lib.ListN.{length-set}
 use Rattle.store.proofs.WriteLaws.{heading-written}
-use Rattle.store.proofs.opening.write_heading.Statement.{statement}
-use Rattle.store.proofs.opening.write_heading.Tie as tie
+use Rattle.store.proofs.words.write_heading.Statement.{statement}
+use Rattle.store.proofs.words.write_heading.Tie as tie
 
 slice-write-store : tie.Need-slice-write-store
 slice-write-store c = search needs
