@@ -11,7 +11,6 @@ use lib.ListN.{length}
 use Rattle.facts.specs.declared.decision.Decision.{Decision}
 use Rattle.facts.specs.declared.decision.Decision.the-variants.{Always, Never, Open}
 use Rattle.facts.specs.Facts.{Fact, fact, Fits, Forces}
-use Rattle.facts.specs.Least.{All}
 use Rattle.facts.specs.State.{State, free, no-to, yes-to, state-of, decide, some-sheet}
 use Rattle.store.specs.Tree.{leaf, tree-truth}
 use Rattle.terms.specs.declared.term.Equation.{Equation}
@@ -21,7 +20,8 @@ use Rattle.diagram.specs.Finish.{parts, finish, answers-from}
 use Rattle.facts.proofs.Decided.{free-fits, fits-free, decided}
 use Rattle.terms.proofs.Cases.{by-test}
 use Rattle.diagram.proofs.FinishTree.{finish-cases, finish-ascending}
-use Rattle.diagram.proofs.Trees.{parts-cases, parts-truth, truth-rests}
+use Rattle.diagram.proofs.Trees.{parts-cases, parts-truth}
+use Rattle.store.proofs.TreeTruth.{truth-rests}
 
 module _ (means : Valuation → Bool) (q : Equation) (qs : List Equation) (xs : List Fact) (settles : Settles means (q ∷ qs) xs) where
   pub settles-forced : (b : Bool) → ((v : Valuation) → Fits xs v → truth v q ≡ b) → Settles means qs xs
@@ -54,7 +54,7 @@ module _ (k : ℕ) (q : Equation) (qs : List Equation) (v : Valuation) where
   later-truth : (s : State) (means : Valuation → Bool)
       → tree-truth (answers-from k (q ∷ qs) v) (finish qs (k + 1) s means) ≡ tree-truth (answers-from (k + 1) qs v) (finish qs (k + 1) s means)
   later-truth s means = truth-rests (answers-from k (q ∷ qs) v) (answers-from (k + 1) qs v) (k + 1) (k + length qs) (finish qs (k + 1) s means)
-      (finish-ascending qs (k + 1) (k + length qs) s means (omega arith)) answers-later
+      (finish-ascending qs (k + 1) (k + length qs) s means (omega arith)) (λ j h _. answers-later j h)
 
 -- ---- the diagram means what it was finished for
 pub finish-truth : (qs : List Equation) (k : ℕ) (xs : List Fact) (means : Valuation → Bool) → Settles means qs xs → free (state-of xs) ≡ true

@@ -1,5 +1,5 @@
--- Trees compared, and what a tree's truth rests on: only the questions that stand in it.
-use Prim.Native.Nat.{ℕ, suc, _≤_}
+-- Trees compared, and a question's two parts, which stand for one where they are the same.
+use Prim.Native.Nat.{ℕ, _≤_}
 use mathlib.Core.Path.{_≡_, refl, sym, ap, _∙_}
 use mathlib.Core.Logic.{_≢_}
 use mathlib.Core.Bool.{Bool, true, false, cond, _&&_, true≢false, false≢true}
@@ -8,6 +8,7 @@ use borrow.Author.Tests.{eqb-true, eq-eqb}
 use lib.Dec.{eqb}
 use Rattle.store.specs.Tree.{Tree, leaf, node, tree-truth, Ascending}
 use Rattle.diagram.specs.Finish.{same-truth, same-tree, parts}
+use Rattle.store.proofs.Tests.{first-passes, second-passes}
 use Rattle.terms.proofs.Cases.{by-test}
 
 -- ---- comparing
@@ -21,24 +22,16 @@ same-truth-self : (a : Bool) → same-truth a a ≡ true
 same-truth-self true = refl
 same-truth-self false = refl
 
-and-left : (a b : Bool) → (a && b) ≡ true → a ≡ true
-and-left true b t = refl
-and-left false b t = t
-
-and-right : (a b : Bool) → (a && b) ≡ true → b ≡ true
-and-right true b t = t
-and-right false b t = absurd (false≢true t)
-
 pub same-tree-says : (s t : Tree) → same-tree s t ≡ true → s ≡ t
 unfolding same-tree
 same-tree-says (leaf a) (leaf b) e = ap leaf (same-truth-says a b e)
 same-tree-says (leaf a) (node k y n) e = absurd (false≢true e)
 same-tree-says (node j x m) (leaf b) e = absurd (false≢true e)
 same-tree-says (node j x m) (node k y n) e =
-    let both : (eqb j k && same-tree x y) ≡ true = and-left (eqb j k && same-tree x y) (same-tree m n) e in
-    let number : j ≡ k = eqb-true j k (and-left (eqb j k) (same-tree x y) both) in
-    let yes-part : x ≡ y = same-tree-says x y (and-right (eqb j k) (same-tree x y) both) in
-    let no-part : m ≡ n = same-tree-says m n (and-right (eqb j k && same-tree x y) (same-tree m n) e) in
+    let both : (eqb j k && same-tree x y) ≡ true = first-passes (eqb j k && same-tree x y) (same-tree m n) e in
+    let number : j ≡ k = eqb-true j k (first-passes (eqb j k) (same-tree x y) both) in
+    let yes-part : x ≡ y = same-tree-says x y (second-passes (eqb j k) (same-tree x y) both) in
+    let no-part : m ≡ n = same-tree-says m n (second-passes (eqb j k && same-tree x y) (same-tree m n) e) in
     λ i. node (number i) (yes-part i) (no-part i)
 
 pub same-tree-self : (t : Tree) → same-tree t t ≡ true
@@ -60,13 +53,7 @@ parts-truth answers k y n = parts-cases (λ t. tree-truth answers t ≡ cond (an
     (λ e. by-test (λ b. tree-truth answers y ≡ cond b (tree-truth answers y) (tree-truth answers n)) (answers k) (λ _. refl) (λ _. ap (tree-truth answers) e))
     (λ _. refl)
 
--- ---- what a truth rests on
-pub truth-rests : (answers others : ℕ → Bool) (least most : ℕ) (t : Tree) → Ascending least most t
-    → ((j : ℕ) → least ≤ j → answers j ≡ others j) → tree-truth answers t ≡ tree-truth others t
-truth-rests answers others least most (leaf b) a e = refl
-truth-rests answers others least most (node k y n) a e =
-    rw (e k (a .0), truth-rests answers others (suc k) most y (a .2) (λ j h. e j (omega (arith, a .0))), truth-rests answers others (suc k) most n (a .3) (λ j h. e j (omega (arith, a .0)))) refl
-
+-- ---- the numbers that stand in it
 pub ascending-less : (least lower most : ℕ) (t : Tree) → lower ≤ least → Ascending least most t → Ascending lower most t
 ascending-less least lower most (leaf b) h a = tt
 ascending-less least lower most (node k y n) h a = (omega (arith, a .0), a .1, a .2, a .3)

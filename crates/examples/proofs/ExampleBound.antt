@@ -1,8 +1,8 @@
 -- No count of the example is above n × (k + 1), for gaps up to k: a handle's meaning rests on the questions of the list only, and so the bound
 -- of a least sheet holds.
 use Prim.Native.Nat.{ℕ, zero, suc, _+_, _-_, _*_, _≤_, _<_}
-use mathlib.Core.Path.{_≡_, refl, sym, ap, _∙_}
-use mathlib.Core.Bool.{Bool, true, cond}
+use mathlib.Core.Path.{_≡_, sym, ap, _∙_}
+use mathlib.Core.Bool.{true, cond}
 use mathlib.Core.List.{List, [], _∷_}
 use native.Mathlib.Omega.{arith}
 use native.Mathlib.Decide.{ℕ-discrete}
@@ -13,7 +13,7 @@ use Rattle.facts.specs.State.{at}
 use Rattle.terms.specs.declared.limits.Limits.{Limits}
 use Rattle.store.specs.Layout.{field-count, question-count, used, question, leaves}
 use Rattle.store.specs.Meaning.{meaning}
-use Rattle.store.specs.Tree.{Tree, leaf, node, tree, tree-truth, Ascending}
+use Rattle.store.specs.Tree.{tree}
 use Rattle.terms.specs.declared.term.Equation.{Equation}
 use Rattle.terms.specs.Meaning.{Valuation, truth}
 use Rattle.terms.specs.Simplify.{gap}
@@ -21,6 +21,7 @@ use Rattle.facts.proofs.LeastBound.{least-bound}
 use Rattle.store.specs.SoundParts.{Sound}
 use Rattle.store.proofs.SoundList.{sound-question}
 use Rattle.store.proofs.SoundTree.{meaning-is-tree, tree-ascending}
+use Rattle.store.proofs.TreeTruth.{truth-rests}
 use Rattle.terms.proofs.Cases.{by-lt}
 
 -- the first so many questions
@@ -41,17 +42,11 @@ list-each P s (suc k) a j h l = elim (ℕ-discrete j (suc k)) [
   | no d ↦ list-each P s k (a .1) j h (omega arith)
 ]
 
--- a tree's truth rests on the questions that it asks
-same-truth : (a b : ℕ → Bool) (least most : ℕ) (t : Tree) → Ascending least most t → ((j : ℕ) → least ≤ j → j ≤ most → a j ≡ b j) → tree-truth a t ≡ tree-truth b t
-same-truth a b least most (leaf c) g e = refl
-same-truth a b least most (node k y n) g e =
-    rw (e k (g .0) (g .1), same-truth a b (suc k) most y (g .2) (λ j h l. e j (omega (arith, g .0)) l), same-truth a b (suc k) most n (g .3) (λ j h l. e j (omega (arith, g .0)) l)) refl
-
 module _ {limits : Limits} {s : List ℕ} (snd : Sound limits s) (handle : ℕ) (h : handle < used s + leaves) where
   meaning-rests : RestsOn (list s (question-count s)) (λ v. meaning s handle v ≡ true)
   meaning-rests v w same m =
       meaning-is-tree snd handle h w
-      ∙ sym (same-truth (λ k. truth v (question s k)) (λ k. truth w (question s k)) 1 (question-count s) (tree s handle) (tree-ascending snd handle h)
+      ∙ sym (truth-rests (λ k. truth v (question s k)) (λ k. truth w (question s k)) 1 (question-count s) (tree s handle) (tree-ascending snd handle h)
       (list-each (λ q. truth v q ≡ truth w q) s (question-count s) same))
       ∙ sym (meaning-is-tree snd handle h v) ∙ m
 

@@ -1,8 +1,8 @@
 -- The finished diagram of a meaning that rests on the list means what that meaning does: the facts are none at the start, so every choice of counts
 -- fits them, and along a path each question has its number. Meanings that are alike finish alike.
-use Prim.Native.Nat.{ℕ, suc, _≤_}
+use Prim.Native.Nat.{ℕ}
 use mathlib.Core.Path.{_≡_, refl, sym, _∙_}
-use mathlib.Core.Bool.{Bool, cond}
+use mathlib.Core.Bool.{Bool}
 use mathlib.Core.List.{List, []}
 use native.Mathlib.Omega.{arith}
 use Rattle.diagram.specs.Finish.{answers-from}
@@ -10,22 +10,13 @@ use Rattle.diagram.specs.Questions.{questions, finished-in}
 use Rattle.facts.specs.State.{start}
 use Rattle.operations.specs.Rests.{Rests}
 use Rattle.store.specs.Layout.{question-count, question}
-use Rattle.store.specs.Tree.{Tree, leaf, node, tree-truth, Ascending, Reduced}
+use Rattle.store.specs.Tree.{tree-truth, Ascending, Reduced}
 use Rattle.terms.specs.Meaning.{Valuation, truth}
 use Rattle.diagram.proofs.FinishTree.{finish-ascending, finish-reduced}
 use Rattle.diagram.proofs.FinishTruth.{finish-truth, finish-same}
 use Rattle.diagram.proofs.QuestionList.{questions-length}
+use Rattle.store.proofs.TreeTruth.{truth-rests}
 use Rattle.operations.proofs.NumberedQuestions.{answers-numbered}
-
--- a tree's truth rests on the numbers that stand in it
-truth-within : (answers others : ℕ → Bool) (least most : ℕ) (t : Tree) → Ascending least most t
-    → ((j : ℕ) → least ≤ j → j ≤ most → answers j ≡ others j) → tree-truth answers t ≡ tree-truth others t
-truth-within answers others least most (leaf b) a e = refl
-truth-within answers others least most (node k y n) a e =
-    let first = e k (a .0) (a .1) in
-    let yes-part = truth-within answers others (suc k) most y (a .2) (λ j h. e j (omega (arith, a .0))) in
-    let no-part = truth-within answers others (suc k) most n (a .3) (λ j h. e j (omega (arith, a .0))) in
-    λ i. cond (first i) (yes-part i) (no-part i)
 
 module _ (s : List ℕ) (means : Valuation → Bool) where
   pub finished-ascending : Ascending 1 (question-count s) (finished-in s means)
@@ -38,7 +29,7 @@ module _ (s : List ℕ) (means : Valuation → Bool) where
 pub finished-truth : {s : List ℕ} {means : Valuation → Bool} → Rests s means → (v : Valuation)
     → tree-truth (λ k. truth v (question s k)) (finished-in s means) ≡ means v
 finished-truth {s} {means} r v =
-    sym (truth-within (answers-from 1 (questions s) v) (λ k. truth v (question s k)) 1 (question-count s) (finished-in s means) (finished-ascending s means)
+    sym (truth-rests (answers-from 1 (questions s) v) (λ k. truth v (question s k)) 1 (question-count s) (finished-in s means) (finished-ascending s means)
     (λ j h l. answers-numbered s v (question-count s) 1 j h (omega arith)))
     ∙ finish-truth (questions s) 1 [] means (λ v w _ _ a. r .same v w a) refl v tt
 

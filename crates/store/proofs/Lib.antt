@@ -3,6 +3,7 @@ pub mod SoundFacts
 pub mod Handles
 pub mod SoundTree
 pub mod TreePaths
+pub mod TreeTruth
 pub mod StoreWords
 pub mod SoundList
 pub mod EntryFound
