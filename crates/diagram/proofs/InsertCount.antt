@@ -17,7 +17,7 @@ use Rattle.store.specs.Tree.{Tree, leaf, node, tree, Ascending, Reduced}
 use Rattle.diagram.specs.declared.placing.Placed.{Placed}
 use Rattle.diagram.specs.declared.placing.Placed.the-variants.{At, Full}
 use Rattle.diagram.specs.Finish.{same-tree}
-use Rattle.diagram.specs.Insert.{place-entry, then-place, leaf-handle, insert, some-below, is-stored, is-among, collect, new-trees, new-count}
+use Rattle.diagram.specs.Insert.{place-entry, then-place, leaf-handle, insert, some-below, is-stored, is-among, collect, new-trees}
 use Rattle.diagram.specs.Inserted.{GrowsBy}
 use Rattle.store.proofs.Handles.{by-handle}
 use Rattle.store.specs.SoundParts.{MayStand, Sound}

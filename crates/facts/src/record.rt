@@ -1,7 +1,6 @@
 // The record of the facts gathered along a path.
 ghost use mathlib.Core.Path.{_≡_};
 ghost use Prim.Native.Nat.{_≤_};
-ghost use lib.ListN.{getD};
 ghost use Rattle.facts.specs.Needs as spec;
 ghost use Rattle.facts.specs.State as state;
 use terms::Field;

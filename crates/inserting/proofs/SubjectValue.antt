@@ -11,7 +11,6 @@ use Rattle.inserting.specs.SubjectMeaning.{subject-meaning}
 use Rattle.store.specs.Grown.{Grown}
 use Rattle.store.specs.Layout.{question-count, question, used, leaves}
 use Rattle.store.specs.SoundParts.{Sound}
-use Rattle.store.specs.Tree.{tree}
 use Rattle.terms.specs.declared.limits.Limits.{Limits}
 use Rattle.terms.specs.Meaning.{Valuation}
 use Rattle.walking.specs.declared.subject.Subject.{Subject}

@@ -1,6 +1,6 @@
 -- What the rules of an entry say on each way through the code: the tests on that way decide the definition's own tests.
 use Prim.Native.Nat.{ℕ, _+_, _-_, _≤_, _<_}
-use mathlib.Core.Path.{_≡_, refl, _∙_, ap, ap₂, sym}
+use mathlib.Core.Path.{_≡_, _∙_, ap, ap₂, sym}
 use mathlib.Core.Bool.{Bool, true, false, not, _&&_, and-false}
 use mathlib.Core.List.{List}
 use native.Mathlib.Omega.{arith}

@@ -12,9 +12,9 @@ use Rattle.terms.specs.declared.limits.Limits.{Limits}
 use Rattle.store.specs.declared.entries.Entry.{Entry}
 use Rattle.store.specs.Entries.{with-entry}
 use Rattle.store.specs.Grown.{Agree}
-use Rattle.store.specs.Layout.{heading-length, used-place, question-count, used, entries-start, entry, entry-of, leaves, room}
+use Rattle.store.specs.Layout.{heading-length, used-place, used, entries-start, entry, entry-of, leaves, room}
 use Rattle.store.specs.Needs.{HasEntry}
-use Rattle.store.specs.SoundParts.{MayStand, EntryKept, Sound}
+use Rattle.store.specs.SoundParts.{MayStand, Sound}
 use Rattle.store.proofs.EntryFound.{Absent}
 use Rattle.store.proofs.StoreWords.{fields-agree, questions-agree, list-agrees, entry-agrees}
 

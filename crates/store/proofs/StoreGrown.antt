@@ -1,6 +1,6 @@
 -- A store grows by entries after its last, one after the other, so every older handle keeps its tree, and the tree of a new entry is made of those of
 -- the handles that it names.
-use Prim.Native.Nat.{ℕ, _+_, _≤_, _<_}
+use Prim.Native.Nat.{ℕ, _+_, _<_}
 use mathlib.Core.Path.{_≡_, refl, ap, ap₂, _∙_}
 use mathlib.Core.List.{List}
 use native.Mathlib.Omega.{arith}

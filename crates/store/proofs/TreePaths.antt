@@ -1,6 +1,6 @@
 -- A path of a tree asks at most as many questions as the tree is deep. Where the question numbers rise along every path, each question
 -- asked takes one of the numbers left, so a diagram of a sound store is at most as deep as its list is long.
-use Prim.Native.Nat.{ℕ, suc, _+_, _≤_, _<_, max}
+use Prim.Native.Nat.{ℕ, suc, _+_, _≤_, _<_}
 use mathlib.Core.Bool.{Bool, cond}
 use mathlib.Core.List.{List}
 use native.Mathlib.Omega.{arith}

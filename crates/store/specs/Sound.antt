@@ -2,7 +2,7 @@
 -- entry's question number is 1 to q, its handles are smaller than its own and differ, an entry that another entry's handle names has a
 -- larger question number than that other entry, no two entries are equal, and unused words are zero."
 use Prim.Native.Nat.{ℕ, zero, suc, _+_, _-_, _*_}
-use mathlib.Core.Bool.{Bool, true, false, cond, not, _&&_}
+use mathlib.Core.Bool.{Bool, true, cond, not, _&&_}
 use mathlib.Core.List.{List, [], _∷_}
 use lib.Dec.{eqb, leb, ltb}
 use lib.ListN.{length, drop}

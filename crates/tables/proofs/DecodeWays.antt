@@ -1,5 +1,4 @@
 -- What a row is decoded to on each way through the code: its kind decides.
-use Prim.Native.Nat.{ℕ}
 use mathlib.Core.Path.{_≡_, refl}
 use mathlib.Core.Logic.{_≢_}
 use mathlib.Core.Bool.{Bool, true, false, cond}

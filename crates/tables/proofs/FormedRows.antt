@@ -1,10 +1,10 @@
 -- A row that is well formed refers to lower rows: each reference of its kind was compared.
 use Prim.Native.Nat.{ℕ, _<_}
 use mathlib.Core.Path.{_≡_}
-use mathlib.Core.Bool.{Bool, true, false, false≢true, cond, _&&_, and-false}
+use mathlib.Core.Bool.{Bool, true, false, cond, _&&_, and-false}
 use native.Mathlib.Omega.{arith}
 use borrow.Author.Tests.{ltb-true, lt-leb}
-use lib.Dec.{eqb, leb, ltb}
+use lib.Dec.{eqb, ltb}
 use Rattle.tables.specs.declared.decoding.Part.the-variants as part
 use Rattle.tables.specs.declared.decoding.Shape.{Shape}
 use Rattle.tables.specs.declared.decoding.Shape.the-variants.{Leaf, Equation, Choice}

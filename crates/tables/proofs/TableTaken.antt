@@ -1,21 +1,20 @@
 -- What it says that a table has no fault: no test of the definition refused. So each row refers to lower rows, and its equation is within the
 -- limits and listed.
 use Prim.Native.Nat.{ℕ, zero, suc, _+_, _%_, _≤_, _<_}
-use mathlib.Core.Path.{_≡_, refl, sym, ap, _∙_, subst}
+use mathlib.Core.Path.{_≡_, refl, sym, subst}
 use mathlib.Core.Logic.{_≢_}
 use mathlib.Core.Bool.{Bool, true, false, cond, _&&_, and-false}
 use mathlib.Core.List.{List}
 use mathlib.Core.Option.{Option, none, some}
 use native.Mathlib.Omega.{arith}
 use native.Mathlib.Decide.{ℕ-discrete}
-use borrow.Author.Tests.{eqb-true, eqb-false, ltb-true, ltb-false}
+use borrow.Author.Tests.{eqb-true, eqb-false, ltb-false}
 use lib.Dec.{eqb, ltb}
 use lib.ListN.{length}
 use Rattle.store.specs.Layout.{field-count}
-use Rattle.tables.specs.declared.answer.TableFault.{TableFault}
 use Rattle.tables.specs.declared.answer.TableFault.the-variants.{NoWords, NotRows, TooManyRows, BadRow, OutOfLimits, NotListed}
 use Rattle.tables.specs.declared.row.Row.{Row}
-use Rattle.tables.specs.Decoding.{decode, Lower}
+use Rattle.tables.specs.Decoding.{decode}
 use Rattle.tables.specs.Faults.{well-formed, equation-fault, shape-fault, row-fault, if-fine, rows-fault, table-fault}
 use Rattle.tables.specs.Listed.{guard-listed}
 use Rattle.tables.specs.Rows.{row-length, row-count, most-rows, row}

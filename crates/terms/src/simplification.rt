@@ -1,14 +1,12 @@
 // Simplifying an equation of two terms.
 ghost use mathlib.Core.Path.{_≡_};
 ghost use Prim.Native.Nat.{_<_, _≤_, _^_, min};
-ghost use lib.IntN.{pos, _-ℤ_};
 ghost use Rattle.terms.specs.Needs.{HasWords};
 ghost use Rattle.terms.specs.Simplify as spec;
 ghost use Rattle.terms.specs.Limits as limit;
 use crate::limits::TermLimits;
 use crate::limits::term_limits;
 use crate::term::Equation;
-use crate::term::Field;
 use crate::term::Steps;
 use crate::term::Term;
 use crate::term::allows;

@@ -1,10 +1,9 @@
 -- The words that a walk leaves are fit for another: each entry that it adds asks a question of the list and names handles that stand already.
-use Prim.Native.Nat.{ℕ, zero, suc, _+_, _*_, _≤_, _<_}
+use Prim.Native.Nat.{ℕ, zero, suc, _+_, _≤_, _<_}
 use mathlib.Core.Path.{_≡_, refl, ap, _∙_}
 use mathlib.Core.Bool.{cond}
 use mathlib.Core.List.{List}
 use native.Mathlib.Omega.{arith}
-use lib.ListN.{length}
 use Rattle.diagram.specs.declared.placing.Placed.{Placed}
 use Rattle.diagram.specs.declared.placing.Placed.the-variants.{At, Full}
 use Rattle.diagram.specs.Insert.{add-entry, place-entry, then-place}
@@ -15,7 +14,7 @@ use Rattle.terms.specs.declared.limits.Limits.{Limits}
 use Rattle.store.specs.declared.entries.Entry.{Entry}
 use Rattle.store.specs.Entries.{find-entry, with-entry}
 use Rattle.store.specs.Grown.{Agree}
-use Rattle.store.specs.Layout.{question-count, used, question, entries-start, entry-of, leaves, room}
+use Rattle.store.specs.Layout.{question-count, used, question, entry-of, leaves, room}
 use Rattle.store.specs.Needs.{HasEntry}
 use Rattle.store.specs.Outcome.{Outcome, outcome}
 use Rattle.walking.specs.declared.subject.Subject.{Subject}
