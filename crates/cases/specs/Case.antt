@@ -12,7 +12,7 @@ use Rattle.reading.specs.Read.{read-sheet, read-number, read-result}
 use Rattle.store.specs.Open.{open-store}
 use Rattle.store.specs.Opened.{open-number}
 use Rattle.store.specs.Outcome as specs
-use Rattle.terms.specs.declared.simplification.Answer.{Answer}
+use Rattle.terms.specs.declared.simplification.SimplifyAnswer.{SimplifyAnswer}
 use Rattle.terms.specs.Limits.{term-limits, store-limits}
 use Rattle.terms.specs.Simplify.{simplify-words, answer}
 use Rattle.verdicts.specs.Verdict as verdicts
@@ -48,7 +48,7 @@ pub data CaseOutcome : Type 0 where
   -- number, result, the store's words, and the other words lent
   answered : ℕ → ℕ → List ℕ → List ℕ → CaseOutcome
 
-abbrev simplified-as : Answer → CaseOutcome
+abbrev simplified-as : SimplifyAnswer → CaseOutcome
 simplified-as a = simplified (a .number) (a .result) (a .left) (a .right) (a .gap)
 
 -- what a call that may add entries leaves, with the other words lent

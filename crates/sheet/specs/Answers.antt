@@ -5,12 +5,10 @@ use Rattle.examples.specs.Example.{example-number}
 use Rattle.operations.specs.declared.answer.Built.{Built}
 use Rattle.operations.specs.Built.{built-number, built-result}
 use Rattle.sheet.specs.declared.answers.Answer.{Answer}
-use Rattle.sheet.specs.declared.answers.Simplified.{Simplified}
 use Rattle.reading.specs.declared.answer.Read.{Read}
 use Rattle.reading.specs.Read.{read-number, read-result}
 use Rattle.store.specs.declared.answer.Opened.{Opened}
 use Rattle.store.specs.Opened.{open-number}
-use Rattle.terms.specs.declared.simplification.Answer as terms
 use Rattle.verdicts.specs.declared.answer.Verdict.{Verdict}
 use Rattle.verdicts.specs.Verdict.{verdict-number, verdict-result}
 use Rattle.writing.specs.declared.answer.Written.{Written}
@@ -41,7 +39,3 @@ read-answer r = answer-with (read-number r) (read-result r)
 -- "The answer is the row count"
 abbrev pub written-answer : Written → Answer
 written-answer w = answer-with (written-number w) (written-result w)
-
--- "Simplify's result is 0 never, 1 always or 2 a question, with two words and a gap beside it": the same five numbers, as C reads them
-abbrev pub simplified-answer : terms.Answer → Simplified
-simplified-answer a = record { number = a .number; result = a .result; left = a .left; right = a .right; gap = a .gap }

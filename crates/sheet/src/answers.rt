@@ -25,29 +25,6 @@ pub struct Answer {
     pub result: u32,
 }
 
-// The answer of simplify: beside number and result a question's two term words and its gap.
-#[repr(C)]
-pub struct Simplified {
-    pub number: u32,
-    pub result: u32,
-    pub left: u32,
-    pub right: u32,
-    pub gap: i32,
-}
-
-// The answer of simplify, laid out as C reads it.
-pub fn simplified_answer(a: terms::Answer) -> Simplified
-    ensures { λ r. ⌜ r ≡ spec.simplified-answer a ⌝ }
-{
-    Simplified {
-        number: a.number,
-        result: a.result,
-        left: a.left,
-        right: a.right,
-        gap: a.gap,
-    }
-}
-
 // The answer of open, which names no result.
 pub fn opened_answer(o: Opened) -> Answer
     ensures { λ r. ⌜ r ≡ spec.opened-answer o ⌝ }

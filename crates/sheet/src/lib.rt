@@ -6,7 +6,6 @@ mod changing;
 mod equations;
 
 pub use answers::Answer;
-pub use answers::Simplified;
 pub use asking::sheet_example;
 pub use asking::sheet_read;
 pub use asking::sheet_verdict;

@@ -15,7 +15,7 @@ use Rattle.terms.specs.declared.limits.TermLimits.{TermLimits}
 use Rattle.terms.specs.declared.term.Equation.{Equation}
 use Rattle.terms.specs.declared.simplification.Guard.{Guard}
 use Rattle.terms.specs.declared.simplification.Guard.the-variants as guard
-use Rattle.terms.specs.declared.simplification.Answer.{Answer}
+use Rattle.terms.specs.declared.simplification.SimplifyAnswer.{SimplifyAnswer}
 use Rattle.terms.specs.declared.simplification.Simplified.{Simplified}
 use Rattle.terms.specs.declared.simplification.Simplified.the-variants.{Refused, Never, Always, Question}
 use Rattle.terms.specs.Words.{equation, term-of, word-of, allows}
@@ -117,7 +117,7 @@ read-words {l} {r} {s} {t} h k es et eg =
 
 -- ---- the answer in numbers
 module _ {s : Simplified} where
-  pub answers : {t : Simplified} {a : Answer} → s ≡ t → a ≡ answer t → a ≡ answer s
+  pub answers : {t : Simplified} {a : SimplifyAnswer} → s ≡ t → a ≡ answer t → a ≡ answer s
   answers e d = rw e d
 
   pub answers-question : {l r : ℕ} {z : ℤ} → s ≡ Question l r z → SFits w32 z

@@ -8,7 +8,7 @@ use Rattle.terms.specs.declared.limits.TermLimits.{TermLimits}
 use Rattle.terms.specs.declared.term.Equation.{Equation}
 use Rattle.terms.specs.declared.simplification.Guard.{Guard}
 use Rattle.terms.specs.declared.simplification.Guard.the-variants as guard
-use Rattle.terms.specs.declared.simplification.Answer.{Answer}
+use Rattle.terms.specs.declared.simplification.SimplifyAnswer.{SimplifyAnswer}
 use Rattle.terms.specs.declared.simplification.Simplified.{Simplified}
 use Rattle.terms.specs.declared.simplification.Simplified.the-variants.{Refused, Never, Always, Question}
 use Rattle.terms.specs.Words.{steps, term, equation, term-of, word-of, allows}
@@ -57,12 +57,12 @@ simplify-words limits l r =
     cond (allows limits (term-of l) && allows limits (term-of r)) (shown (simplify (equation (term-of l) (term-of r)))) Refused
 
 -- "An answer is a number and a result. ... On refusal the result is 0": an answer with no question beside it
-abbrev pub plain : ℕ → ℕ → Answer
+abbrev pub plain : ℕ → ℕ → SimplifyAnswer
 plain number result = record { number = number; result = result; left = 0; right = 0; gap = pos 0 }
 
 -- "Simplify's result is 0 never, 1 always or 2 a question, with two words and a gap beside it that are zero unless it is 2."
 -- "Simplify gives 35 too"
-abbrev pub answer : Simplified → Answer
+abbrev pub answer : Simplified → SimplifyAnswer
 answer Refused = plain 35 0
 answer Never = plain 0 0
 answer Always = plain 0 1

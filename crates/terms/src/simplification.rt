@@ -28,8 +28,9 @@ pub enum Simplified {
     Question { left: u32, right: u32, gap: i32 },
 }
 
-// An answer in document 01's numbers.
-pub struct Answer {
+// An answer in document 01's numbers, laid out as C reads it.
+#[repr(C)]
+pub struct SimplifyAnswer {
     pub number: u32,
     pub result: u32,
     pub left: u32,
@@ -153,14 +154,14 @@ pub fn simplify(left: u32, right: u32) -> Simplified
 }
 
 // The number, result, two words and gap of an answer.
-pub fn answer_of(s: Simplified) -> Answer
+pub fn answer_of(s: Simplified) -> SimplifyAnswer
     ensures { λ r. ⌜ r ≡ spec.answer s ⌝ }
 {
     match s {
         Simplified::Refused => plain(35, 0),
         Simplified::Never => plain(0, 0),
         Simplified::Always => plain(0, 1),
-        Simplified::Question { left, right, gap } => Answer {
+        Simplified::Question { left, right, gap } => SimplifyAnswer {
             number: 0,
             result: 2,
             left,
@@ -171,10 +172,10 @@ pub fn answer_of(s: Simplified) -> Answer
 }
 
 // An answer with no question beside it.
-fn plain(number: u32, result: u32) -> Answer
+fn plain(number: u32, result: u32) -> SimplifyAnswer
     ensures { λ r. ⌜ r ≡ spec.plain number result ⌝ }
 {
-    Answer {
+    SimplifyAnswer {
         number,
         result,
         left: 0,
