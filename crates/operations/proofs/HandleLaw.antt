@@ -34,7 +34,7 @@ module _ {limits : Limits} {s : List ℕ} (snd : Sound limits s) where
   handle-in : (a : ℕ) → is-handle s a ≡ true → Rests s (meaning s a)
   handle-in a t = handle-rests snd a (ltb-true _ _ t)
 
-  call-rests : (c : Call) → TestPassed limits s c → Rests s (rule-of-call [] s c)
+  pub call-rests : (c : Call) → TestPassed limits s c → Rests s (rule-of-call [] s c)
   unfolding rule-of
   call-rests (build table) t = table-rests limits s table t
   call-rests (negate a) t = rests-not (handle-in a t)

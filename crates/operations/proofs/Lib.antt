@@ -8,6 +8,7 @@ pub mod MeaningAdded
 pub mod RefusedUnchanged
 pub mod HandleLaw
 pub mod RunLater
+pub mod CallMeans
 pub mod FormulaHandles
 pub mod NotVacuous
 pub mod WrittenAgain

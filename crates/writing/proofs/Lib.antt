@@ -3,6 +3,7 @@ pub mod MarkedRows
 pub mod WrittenRows
 pub mod WrittenMeans
 pub mod WrittenAccepted
+pub mod WriteBackMeans
 pub mod MarkWays
 pub mod PutWords
 pub mod EntryWritten
