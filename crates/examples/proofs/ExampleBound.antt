@@ -1,27 +1,25 @@
 -- No count of the example is above n × (k + 1), for gaps up to k: a handle's meaning rests on the questions of the list only, and so the bound
 -- of a least sheet holds.
 use Prim.Native.Nat.{ℕ, zero, suc, _+_, _-_, _*_, _≤_, _<_}
-use mathlib.Core.Path.{_≡_, sym, ap, _∙_}
+use mathlib.Core.Path.{_≡_, sym, _∙_}
 use mathlib.Core.Bool.{true, cond}
 use mathlib.Core.List.{List, [], _∷_}
 use native.Mathlib.Omega.{arith}
 use native.Mathlib.Decide.{ℕ-discrete}
 use lib.IntN.{pos, negsuc, natAbs, _-ℤ_}
-use Rattle.examples.specs.Example.{largest-gap}
+use Rattle.examples.specs.LargestGap.{list-gap}
 use Rattle.facts.specs.Least.{IsLeast, Near, All, RestsOn}
 use Rattle.facts.specs.State.{at}
 use Rattle.terms.specs.declared.limits.Limits.{Limits}
 use Rattle.store.specs.Layout.{field-count, question-count, used, question, leaves}
 use Rattle.store.specs.Meaning.{meaning}
-use Rattle.store.specs.Tree.{tree}
 use Rattle.terms.specs.declared.term.Equation.{Equation}
 use Rattle.terms.specs.Meaning.{Valuation, truth}
-use Rattle.terms.specs.Simplify.{gap}
+use Rattle.examples.proofs.LargestGapIs.{largest-gap-is}
 use Rattle.facts.proofs.LeastBound.{least-bound}
 use Rattle.store.specs.SoundParts.{Sound}
 use Rattle.store.proofs.SoundList.{sound-question}
-use Rattle.store.proofs.SoundTree.{meaning-is-tree, tree-ascending}
-use Rattle.store.proofs.TreeTruth.{truth-rests}
+use Rattle.store.proofs.MeaningRests.{same-meaning}
 use Rattle.terms.proofs.Cases.{by-lt}
 
 -- the first so many questions
@@ -45,10 +43,7 @@ list-each P s (suc k) a j h l = elim (ℕ-discrete j (suc k)) [
 module _ {limits : Limits} {s : List ℕ} (snd : Sound limits s) (handle : ℕ) (h : handle < used s + leaves) where
   meaning-rests : RestsOn (list s (question-count s)) (λ v. meaning s handle v ≡ true)
   meaning-rests v w same m =
-      meaning-is-tree snd handle h w
-      ∙ sym (truth-rests (λ k. truth v (question s k)) (λ k. truth w (question s k)) 1 (question-count s) (tree s handle) (tree-ascending snd handle h)
-      (list-each (λ q. truth v q ≡ truth w q) s (question-count s) same))
-      ∙ sym (meaning-is-tree snd handle h v) ∙ m
+      sym (same-meaning snd v w (list-each (λ q. truth v q ≡ truth w q) s (question-count s) same) handle h) ∙ m
 
   -- "No count exceeds n × (K + 1)"
   pub example-bound : (n k : ℕ) → ((j : ℕ) → 1 ≤ j → j ≤ question-count s → Near n k (question s j))
@@ -62,23 +57,15 @@ gap-apart zero r k h = (omega arith, omega arith)
 gap-apart (suc l) r k h = by-lt (λ t. natAbs (cond t (negsuc (suc l - suc r)) (pos (r - suc l))) ≤ k → (r ≤ suc l + k) × (suc l ≤ r + k)) r (suc l)
     (λ i j. (omega arith, omega arith)) (λ i j. (omega arith, omega arith)) h
 
-gap-below : (s : List ℕ) (k j : ℕ) → 1 ≤ j → j ≤ k → natAbs (gap (question s j)) ≤ largest-gap s k
-unfolding largest-gap
-gap-below s zero j h l = absurd (omega arith)
-gap-below s (suc k) j h l = elim (ℕ-discrete j (suc k)) [
-  | yes e ↦ omega (arith, ap (λ i. natAbs (gap (question s i))) e)
-  | no d ↦ omega (arith, gap-below s k j h (omega arith))
-]
-
 -- "No count exceeds n × (K + 1), K the largest gap in the list without its sign, 0 for an empty list."
 pub example-within-gap : {limits : Limits} {s : List ℕ} (snd : Sound limits s) (handle : ℕ) (h : handle < used s + leaves)
     (v : Valuation) → IsLeast (field-count s) (λ w. meaning s handle w ≡ true) v
-    → (f : ℕ) → f ≤ field-count s → at v f ≤ field-count s * (largest-gap s (question-count s) + 1)
+    → (f : ℕ) → f ≤ field-count s → at v f ≤ field-count s * (list-gap s + 1)
 example-within-gap {limits} {s} snd handle h v is =
-    example-bound snd handle h (field-count s) (largest-gap s (question-count s)) near v is
+    example-bound snd handle h (field-count s) (list-gap s) near v is
   where
-    near : (j : ℕ) → 1 ≤ j → j ≤ question-count s → Near (field-count s) (largest-gap s (question-count s)) (question s j)
+    near : (j : ℕ) → 1 ≤ j → j ≤ question-count s → Near (field-count s) (list-gap s) (question s j)
     near j i l =
         let q = sound-question snd j i l in
-        let g = gap-apart (question s j .left .steps .0) (question s j .right .steps .0) (largest-gap s (question-count s)) (gap-below s (question-count s) j i l) in
+        let g = gap-apart (question s j .left .steps .0) (question s j .right .steps .0) (list-gap s) (largest-gap-is s (question-count s) .none-larger j i l) in
         record { left-in = q .left .field-in; right-in = q .right .field-in; gap-up = g .0; gap-down = g .1 }

@@ -6,5 +6,7 @@ pub mod BestLaws
 pub mod SeekLaws
 pub mod SheetWritten
 pub mod ExampleMeans
+pub mod LargestGapIs
 pub mod ExampleBound
+pub mod ExampleFirst
 pub mod ExampleWays

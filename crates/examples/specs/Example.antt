@@ -1,9 +1,8 @@
 -- "Example: writes n counts (16-bit), field 1 first: the least satisfying sheet, field 1 compared first."
-use Prim.Native.Nat.{ℕ, zero, suc, max}
+use Prim.Native.Nat.{ℕ}
 use mathlib.Core.Bool.{cond}
 use mathlib.Core.List.{List}
 use lib.Dec.{eqb}
-use lib.IntN.{natAbs}
 use lib.ListN.{length}
 use Rattle.examples.specs.declared.answer.Example.{Example}
 use Rattle.examples.specs.declared.answer.Example.the-variants.{Written, Refused}
@@ -16,7 +15,6 @@ use Rattle.store.specs.Outcome.{Outcome, outcome}
 use Rattle.store.specs.Sound.{sound}
 use Rattle.store.specs.Tree.{tree}
 use Rattle.terms.specs.declared.limits.Limits.{Limits}
-use Rattle.terms.specs.Simplify.{gap}
 
 -- "52, example of a rule that nothing satisfies"
 abbrev pub given : Best → List ℕ → Outcome Example
@@ -45,8 +43,3 @@ example-fault-number Nothing = 52
 abbrev pub example-number : Example → ℕ
 example-number Written = 0
 example-number (Refused f) = example-fault-number f
-
--- "K the largest gap in the list without its sign, 0 for an empty list": of the first k questions
-unfoldable pub largest-gap : List ℕ → ℕ → ℕ
-largest-gap s zero = 0
-largest-gap s (suc k) = max (natAbs (gap (question s (suc k)))) (largest-gap s k)

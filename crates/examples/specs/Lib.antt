@@ -1,4 +1,6 @@
 pub mod Best
 pub mod Example
 pub mod ExampleSays
+pub mod LargestGap
+pub mod ExampleAnswers
 pub mod Needs

@@ -6,12 +6,11 @@ use mathlib.Core.Bool.{Bool, false, cond, not, _&&_}
 use mathlib.Core.List.{List, [], _∷_, _++_}
 use mathlib.Core.Option.{none}
 use native.Mathlib.Omega.{arith}
-use lib.Dec.{eqb}
 use lib.ListN.{getD}
 use Rattle.diagram.specs.Questions.{questions}
 use Rattle.facts.specs.Least.{All}
 use Rattle.operations.specs.Rests.{Rests}
-use Rattle.store.specs.Layout.{field-count, question-count, question, used, entry, leaves}
+use Rattle.store.specs.Layout.{field-count, question-count, question, used, leaves}
 use Rattle.store.specs.Meaning.{meaning}
 use Rattle.store.specs.SoundParts.{Sound}
 use Rattle.tables.specs.declared.decoding.Shape.{Shape}
@@ -23,16 +22,12 @@ use Rattle.tables.specs.Rows.{row-count, row, row-truth, row-truths, rule-meani
 use Rattle.terms.specs.declared.limits.Limits.{Limits}
 use Rattle.terms.specs.declared.limits.TermLimits.{TermLimits}
 use Rattle.terms.specs.declared.term.Field.{Field}
-use Rattle.terms.specs.declared.term.Term.{Term}
 use Rattle.terms.specs.Limits.{terms-within}
-use Rattle.terms.specs.Meaning.{Valuation, count, value, truth}
-use Rattle.store.proofs.Handles.{by-handles, leaf-stays}
-use Rattle.store.proofs.SoundList.{sound-question}
-use Rattle.store.proofs.SoundTree.{falling, meaning-entry}
+use Rattle.terms.specs.Meaning.{Valuation, truth}
+use Rattle.store.proofs.MeaningRests.{same-meaning, same-question}
 use Rattle.tables.proofs.DecodedTruth.{decode-truth}
 use Rattle.tables.proofs.ListedTruth.{same-simplified}
 use Rattle.tables.proofs.TableTaken.{equation-taken, RowTaken, table-taken}
-use Rattle.terms.proofs.Cases.{by-eq}
 use Rattle.operations.proofs.NumberedQuestions.{all-numbered, all-from}
 
 -- ---- what is made of meanings that rest on the list
@@ -54,15 +49,6 @@ module _ {s : List ℕ} where
 
 -- ---- choices of counts that answer every question of the list alike
 module _ (s : List ℕ) (v w : Valuation) (alike : (j : ℕ) → 1 ≤ j → j ≤ question-count s → truth v (question s j) ≡ truth w (question s j)) where
-  -- a handle asks questions of the list
-  same-meaning : {limits : Limits} → Sound limits s → (h : ℕ) → h < used s + leaves → meaning s h v ≡ meaning s h w
-  same-meaning snd = by-handles (falling snd) (λ h. meaning s h v ≡ meaning s h w)
-      (λ h l. ap (λ x. eqb x 1) (leaf-stays h s v h l ∙ sym (leaf-stays h s w h l)))
-      (λ i h y n.
-      let k = snd .entry-kept i h in
-      let q = alike (entry s i .question) (k .asks-some) (k .asks-listed) in
-      meaning-entry snd i h v ∙ (λ d. cond (q d) (y d) (n d)) ∙ sym (meaning-entry snd i h w))
-
   module _ (limits : TermLimits) where
     same-shape : (before : ℕ → Bool) (sh : Shape) → shape-fault limits s sh ≡ none → shape-truth v before sh ≡ shape-truth w before sh
     same-shape before (Leaf b) f = refl
@@ -86,7 +72,7 @@ by-number : (s : List ℕ) (v w : Valuation) → All (λ q. truth v q ≡ truth 
 by-number s v w a j h l = all-numbered (λ q. truth v q ≡ truth w q) s (question-count s) 1 a j h (omega arith)
 
 pub handle-rests : {limits : Limits} {s : List ℕ} → Sound limits s → (h : ℕ) → h < used s + leaves → Rests s (meaning s h)
-handle-rests {s = s} snd h l = record { same = λ v w a. same-meaning s v w (by-number s v w a) snd h l }
+handle-rests {s = s} snd h l = record { same = λ v w a. same-meaning snd v w (by-number s v w a) h l }
 
 pub table-rests : (limits : Limits) (s table : List ℕ) → table-fault limits s table ≡ none → Rests s (rule-meaning table)
 table-rests limits s table e = record {
@@ -98,11 +84,5 @@ table-rests limits s table e = record {
 -- "A choice of counts gives each of the n fields a natural number.": what a choice gives beyond them is never read
 pub rests-fields : {limits : Limits} {s : List ℕ} → Sound limits s → {means : Valuation → Bool} → Rests s means
     → (v w : Valuation) → ((f : Field) → 1 ≤ f .0 → f .0 ≤ field-count s → v f ≡ w f) → means v ≡ means w
-unfolding count
-rests-fields {s = s} snd r v w e = r .same v w (all-from (λ q. truth v q ≡ truth w q) s (question-count s) 1 (λ j h l.
-    let k = sound-question snd j h (omega arith) in
-    ap₂ eqb (same-value (question s j .left) (k .left .field-in)) (same-value (question s j .right) (k .right .field-in))))
-  where
-    same-value : (t : Term) → t .field .0 ≤ field-count s → value v t ≡ value w t
-    same-value t l = ap (λ n. n + t .steps .0)
-        (by-eq (λ z. cond z 0 (v (t .field)) ≡ cond z 0 (w (t .field))) (t .field .0) 0 (λ _. refl) (λ n. e (t .field) (omega arith) l))
+rests-fields {s = s} snd r v w e =
+    r .same v w (all-from (λ q. truth v q ≡ truth w q) s (question-count s) 1 (λ j h l. same-question snd v w e j h (omega arith)))

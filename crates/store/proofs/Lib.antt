@@ -6,6 +6,7 @@ pub mod TreePaths
 pub mod TreeTruth
 pub mod StoreWords
 pub mod SoundList
+pub mod MeaningRests
 pub mod EntryFound
 pub mod EntryAdded
 pub mod StoreGrown
