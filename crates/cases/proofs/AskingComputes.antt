@@ -1,6 +1,7 @@
 -- Definitions that are opened together where a case is computed: simplify, and the calls that leave the store as it is.
 use Rattle.examples.specs.Best.{counts-from, best}
 use Rattle.examples.specs.Example.{example}
+use Rattle.examples.specs.LargestGap.{largest-gap}
 use Rattle.facts.specs.Least.{first-from, fixed}
 use Rattle.reading.specs.Read.{read-sheet}
 use Rattle.terms.specs.Simplify.{simplify-words}
@@ -13,5 +14,5 @@ unfolding mark-parts marks-down reachable marked-before row-of entry-rows entrie
 writing-computes = Unit {0}
 
 unfoldable pub asking-computes : Type 0
-unfolding writing-computes simplify-words read-sheet reached verdict first-from fixed counts-from best example
+unfolding writing-computes simplify-words read-sheet reached verdict first-from fixed counts-from best example largest-gap
 asking-computes = Unit {0}

@@ -1,3 +1,2 @@
 pub mod AskingComputes
 pub mod Proved
-pub mod RunOfCases

@@ -5,6 +5,7 @@ use mathlib.Core.List.{List, [], _∷_}
 use lib.IntN.{ℤ}
 use Rattle.examples.specs.Example.{example-number}
 use Rattle.examples.specs.Example as examples
+use Rattle.examples.specs.LargestGap.{list-gap}
 use Rattle.operations.specs.declared.answer.Built.{Built}
 use Rattle.operations.specs.Built.{built-number, built-result}
 use Rattle.operations.specs.Operations as operation
@@ -40,6 +41,8 @@ pub data CaseCall : Type 0 where
   verdict : ℕ → CaseCall
   -- a handle, and the words lent for the sheet
   example : ℕ → List ℕ → CaseCall
+  -- no call: what K of the store's list is
+  ask-list-gap : CaseCall
 
 -- What a call leaves: its answer, and every word lent to it.
 pub data CaseOutcome : Type 0 where
@@ -47,6 +50,8 @@ pub data CaseOutcome : Type 0 where
   simplified : ℕ → ℕ → ℕ → ℕ → ℤ → CaseOutcome
   -- number, result, the store's words, and the other words lent
   answered : ℕ → ℕ → List ℕ → List ℕ → CaseOutcome
+  -- K
+  gap-is : ℕ → CaseOutcome
 
 abbrev simplified-as : SimplifyAnswer → CaseOutcome
 simplified-as a = simplified (a .number) (a .result) (a .left) (a .right) (a .gap)
@@ -78,6 +83,7 @@ outcomes s (verdict handle ∷ calls) =
 outcomes s (example handle out ∷ calls) =
     let o = examples.example store-limits s handle out in
     answered (example-number (o .answer)) 0 s (o .words) ∷ outcomes s calls
+outcomes s (ask-list-gap ∷ calls) = gap-is (list-gap s) ∷ outcomes s calls
 
 -- A row of the table: the store's words at the start, the calls, and what each must leave.
 pub record Case : Type 0 where

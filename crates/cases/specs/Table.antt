@@ -3,7 +3,7 @@ use Prim.Native.Nat.{ℕ}
 use mathlib.Core.List.{List, [], _∷_, _++_}
 use lib.IntN.{pos}
 use lib.ListN.{replicate}
-use Rattle.cases.specs.Case.{simplify, open-with, build, negate, join, read, write-back, verdict, example, simplified, answered, Case}
+use Rattle.cases.specs.Case.{simplify, open-with, build, negate, join, read, write-back, verdict, example, ask-list-gap, simplified, answered, gap-is, Case}
 
 -- S3(1) = S1(2) simplifies to 2 = S2(1): words 2, 65, gap 2.
 abbrev pub case-1 : Case
@@ -32,12 +32,13 @@ case-4 = record {
       ∷ answered 0 0 (1 ∷ 1 ∷ 0 ∷ 1 ∷ 8160 ∷ []) (1 ∷ 8160 ∷ []) ∷ [];
 }
 
--- n = 0, empty list, 3 words: opened, all zero. The rule of one always row has handle 1; its example writes nothing.
+-- n = 0, empty list, 3 words: opened, all zero. The rule of one always row has handle 1; its example writes nothing. (K is 0 for an empty list.)
 abbrev pub case-5-opened : Case
 case-5-opened = record {
   start = 9 ∷ 9 ∷ 9 ∷ [];
-  calls = open-with 0 [] ∷ build (1 ∷ 0 ∷ 0 ∷ 0 ∷ []) ∷ verdict 1 ∷ example 1 [] ∷ [];
-  expected = answered 0 0 (0 ∷ 0 ∷ 0 ∷ []) [] ∷ answered 0 1 (0 ∷ 0 ∷ 0 ∷ []) (1 ∷ 0 ∷ 0 ∷ 0 ∷ []) ∷ answered 0 1 (0 ∷ 0 ∷ 0 ∷ []) [] ∷ answered 0 0 (0 ∷ 0 ∷ 0 ∷ []) [] ∷ [];
+  calls = open-with 0 [] ∷ build (1 ∷ 0 ∷ 0 ∷ 0 ∷ []) ∷ verdict 1 ∷ example 1 [] ∷ ask-list-gap ∷ [];
+  expected = answered 0 0 (0 ∷ 0 ∷ 0 ∷ []) [] ∷ answered 0 1 (0 ∷ 0 ∷ 0 ∷ []) (1 ∷ 0 ∷ 0 ∷ 0 ∷ []) ∷ answered 0 1 (0 ∷ 0 ∷ 0 ∷ []) [] ∷ answered 0 0 (0 ∷ 0 ∷ 0 ∷ []) []
+      ∷ gap-is 0 ∷ [];
 }
 
 -- 2 words: 21.
@@ -137,11 +138,11 @@ case-11 =
     let s : List ℕ = 1 ∷ 2 ∷ 2 ∷ 1 ∷ 0 ∷ 1 ∷ 32 ∷ 2 ∷ 0 ∷ 1 ∷ 1 ∷ 0 ∷ 2 ∷ [] in
     record {
       start = s;
-      calls = example 3 (7 ∷ []) ∷ verdict 3 ∷ read 3 (2 ∷ []) ∷ read 3 (1 ∷ []) ∷ write-back 3 sevens ∷ example 0 (7 ∷ []) ∷ example 4 (7 ∷ []) ∷ [];
+      calls = example 3 (7 ∷ []) ∷ verdict 3 ∷ read 3 (2 ∷ []) ∷ read 3 (1 ∷ []) ∷ write-back 3 sevens ∷ example 0 (7 ∷ []) ∷ example 4 (7 ∷ []) ∷ ask-list-gap ∷ [];
       expected =
           answered 0 0 s (2 ∷ []) ∷ answered 0 2 s [] ∷ answered 0 1 s (2 ∷ []) ∷ answered 0 0 s (1 ∷ [])
           ∷ answered 0 6 s (0 ∷ 0 ∷ 0 ∷ 0 ∷ 1 ∷ 0 ∷ 0 ∷ 0 ∷ 2 ∷ 1 ∷ 32 ∷ 0 ∷ 5 ∷ 2 ∷ 0 ∷ 1 ∷ 2 ∷ 1 ∷ 0 ∷ 0 ∷ 5 ∷ 4 ∷ 0 ∷ 3 ∷ 7 ∷ [])
-          ∷ answered 52 0 s (7 ∷ []) ∷ answered 41 0 s (7 ∷ []) ∷ [];
+          ∷ answered 52 0 s (7 ∷ []) ∷ answered 41 0 s (7 ∷ []) ∷ gap-is 1 ∷ [];
     }
 
 abbrev pub cases : List Case

@@ -13,3 +13,4 @@ pub mod FormulaHandles
 pub mod NotVacuous
 pub mod WrittenAgain
 pub mod Computing
+pub mod RunOfCases
