@@ -7,7 +7,8 @@ use mathlib.Core.Bool.{Bool, true, false, true≢false, false≢true}
 use mathlib.Core.List.{List, [], _∷_}
 use Rattle.facts.specs.declared.decision.Decision.{Decision}
 use Rattle.facts.specs.declared.decision.Decision.the-variants.{Always, Never, Open}
-use Rattle.facts.specs.Facts.{Fact, fact, Fits, Forces}
+use Rattle.facts.specs.declared.fact.Fact.{Fact}
+use Rattle.facts.specs.Facts.{fact, Fits, Forces}
 use Rattle.facts.specs.State.{free, no-to, yes-to, state-of, decide, some-sheet}
 use Rattle.store.specs.Tree.{Tree, leaf, node}
 use Rattle.terms.specs.declared.term.Equation.{Equation}

@@ -5,7 +5,8 @@ use mathlib.Core.Bool.{Bool, true, false}
 use mathlib.Core.List.{List, [], _∷_}
 use native.Mathlib.Omega.{arith}
 use lib.ListN.{length}
-use Rattle.facts.specs.Facts.{Fact, fact, Fits}
+use Rattle.facts.specs.declared.fact.Fact.{Fact}
+use Rattle.facts.specs.Facts.{fact, Fits}
 use Rattle.facts.specs.State.{State, free, no-to, yes-to, state-of, some-sheet}
 use Rattle.store.specs.Tree.{Tree, leaf, node, Ascending}
 use Rattle.terms.specs.declared.term.Equation.{Equation}

@@ -6,7 +6,8 @@ use mathlib.Core.Logic.{_≢_}
 use mathlib.Core.Bool.{Bool, true, false}
 use mathlib.Core.List.{List, [], _∷_}
 use Rattle.facts.specs.declared.decision.Decision.the-variants.{Always, Never, Open}
-use Rattle.facts.specs.Facts.{Fact, fact, Fits, Forces}
+use Rattle.facts.specs.declared.fact.Fact.{Fact}
+use Rattle.facts.specs.Facts.{fact, Fits, Forces}
 use Rattle.store.specs.Tree.{Tree, leaf, node}
 use Rattle.terms.specs.declared.term.Equation.{Equation}
 use Rattle.terms.specs.Meaning.{Valuation}

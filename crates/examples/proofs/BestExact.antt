@@ -9,7 +9,8 @@ use lib.ListN.{length}
 use Rattle.examples.specs.Best.{sheet, Best, none, some, lesser, best}
 use Rattle.facts.specs.declared.decision.Decision.{Decision}
 use Rattle.facts.specs.declared.decision.Decision.the-variants.{Always, Never, Open}
-use Rattle.facts.specs.Facts.{Fact, fact, Fits, Forces}
+use Rattle.facts.specs.declared.fact.Fact.{Fact}
+use Rattle.facts.specs.Facts.{fact, Fits, Forces}
 use Rattle.facts.specs.Least.{least-sheet}
 use Rattle.facts.specs.State.{State, at, Fit, free, no-to, yes-to, state-of, decide}
 use Rattle.store.specs.Tree.{Tree, leaf, node}

@@ -7,7 +7,8 @@ use mathlib.Core.Bool.{true, false}
 use mathlib.Core.List.{List, _∷_}
 use Rattle.examples.specs.Best.{sheet, Best, none, some, best}
 use Rattle.facts.specs.declared.decision.Decision.the-variants.{Open}
-use Rattle.facts.specs.Facts.{Fact, fact, Fits, Forces}
+use Rattle.facts.specs.declared.fact.Fact.{Fact}
+use Rattle.facts.specs.Facts.{fact, Fits, Forces}
 use Rattle.facts.specs.Least.{least-sheet}
 use Rattle.facts.specs.State.{Fit, free, no-to, yes-to, state-of, decide}
 use Rattle.store.specs.Tree.{Tree, node}

@@ -1,4 +1,4 @@
--- A call of `add` on a record in a local, for every caller: the local is lent, and comes back at a record that has the question answered no.
+-- A call of `add` on a record in a local, for every caller: the local is lent, and comes back at a record that has the fact.
 --     lend-to     the local's cell is at the head: it is lent, and what `add` asks is at the head, with the lender's part behind it
 --     back-from   what `add` leaves is at the head: the local's cell is there again, at the new record, and the promise is learned
 -- A caller's walk then says nothing of lifetimes, loans and ghost names. Operands are read with two entries where the local's cell was.
@@ -28,12 +28,12 @@ use denote.Triple.Spec.{tripleOf}
 use denote.Triple.Statement.{Contract}
 use denote.Triple.Clauses.{ensured, lasts}
 use denote.Triple.Walked.{says}
-use Rattle.terms.specs.declared.term.Equation.{Equation}
-use Rattle.terms.proofs.term.Equation as E
-use Rattle.terms.proofs.term.Equation.Laws as E′
+use Rattle.facts.specs.declared.fact.Fact.{Fact}
+use Rattle.facts.proofs.fact.Fact as X
+use Rattle.facts.proofs.fact.Fact.Laws as X′
 use Rattle.facts.specs.declared.record.Facts.{Facts}
-use Rattle.facts.specs.Needs.{CanAddNo}
-use Rattle.facts.proofs.RecordLent.{mach, mach-q, Good, Good-q, Added}
+use Rattle.facts.specs.Needs.{CanAddFact}
+use Rattle.facts.proofs.RecordLent.{mach, mach-x, Good, Good-x, Added}
 use Rattle.facts.proofs.LentLocal.{Ref, lends, back}
 use Rattle.facts.proofs.record.Facts as T
 use Rattle.facts.proofs.record.Facts.Laws as T′
@@ -46,31 +46,31 @@ ref h α l δ = Ref T.the-type T′.the-laws T′.the-plain (α ∷ []) l 0 δ h
 abbrev pub kept : ℕ → ℕ → GName → Fml
 kept α l δ = flent (α ∷ []) (Body (mem T.the-row) l 0 δ)
 
-abbrev lent : Facts → Equation → ℕ → GName → RefT Facts × (Equation × Unit {0})
+abbrev lent : Facts → Fact → ℕ → GName → RefT Facts × (Fact × Unit {0})
 lent h e l δ = (record { ptr = (l, 0); name = δ; now = h }, (e, tt))
 
 module _ {M : Type 1} (𝓤 : URA M) (H : Heap 𝓤) (A : Atoms 𝓤) (at-mem : Memory → SProp 𝓤) (run : Routine → Fun 𝓤) where
   abbrev pub Add : Contract 𝓤
   Add = tripleOf 𝓤 H A add.signature (add.spec 𝓤 H A at-mem run)
 
-  abbrev pub to-add : Facts → Equation → ℕ → ℕ → GName → Add .Ghost
-  to-add h e α l δ = (((α ∷ [], tt), (fullShare, tt), tt, lent h e l δ, (vptr l 0 ∷ [], (mach-q e ∷ [], tt))), tt)
+  abbrev pub to-add : Facts → Fact → ℕ → ℕ → GName → Add .Ghost
+  to-add h e α l δ = (((α ∷ [], tt), (fullShare, tt), tt, lent h e l δ, (vptr l 0 ∷ [], (mach-x e ∷ [], tt))), tt)
 
   -- the caller has what `add` asks
-  goes-add : Given 𝓤 H A → (h : Facts) (e : Equation) → Good-q e → CanAddNo h e → (α l : ℕ) (δ : GName) → ent 𝓤 (sep 𝓤 (A .lft (α ∷ []) fullShare) (sem 𝓤 H A (ref h α l δ))) (Add .pre (to-add h e α l δ))
+  goes-add : Given 𝓤 H A → (h : Facts) (e : Fact) → Good-x e → CanAddFact h e → (α l : ℕ) (δ : GName) → ent 𝓤 (sep 𝓤 (A .lft (α ∷ []) fullShare) (sem 𝓤 H A (ref h α l δ))) (Add .pre (to-add h e α l δ))
   goes-add W h e good can α l δ =
       qed W (‵ (flft (α ∷ []) fullShare) ∷ ‵ (ref h α l δ) ∷ []) ∵ says ! can $ nothing ! $ move ! (1 ∷ 0 ∷ []) $ join ! $ frame ! $
-      nothing ! $ owned ! E.the-row (Is E.the-row) (LL.makes E.the-type E′.the-plain 𝓤 H A) e _ good $ fjoin ! $ move ! (1 ∷ 0 ∷ []) $ fjoin ! $ done !
+      nothing ! $ owned ! X.the-row (Is X.the-row) (LL.makes X.the-type X′.the-plain 𝓤 H A) e _ good $ fjoin ! $ move ! (1 ∷ 0 ∷ []) $ fjoin ! $ done !
 
 module _ {M : Type 1} {𝓤 : URA M} {H : Heap 𝓤} {A : Atoms 𝓤} {K : Type 0} {W : Given 𝓤 H A} {Γ : List (Item 𝓤)} {G : Goal 𝓤 H} where
-  pub lend-to : K → Soaks G → (at-mem : Memory → SProp 𝓤) (run : Routine → Fun 𝓤) (h : Facts) (e : Equation) (l : ℕ) → Good h → Good-q e → CanAddNo h e
+  pub lend-to : K → Soaks G → (at-mem : Memory → SProp 𝓤) (run : Routine → Fun 𝓤) (h : Facts) (e : Fact) (l : ℕ) → Good h → Good-x e → CanAddFact h e
       → ((α : ℕ) (δ : GName) → Seq K W (raw (Add 𝓤 H A at-mem run .pre (to-add 𝓤 H A at-mem run h e α l δ)) ∷ ‵ (kept α l δ) ∷ Γ) G) → Seq K W (‵ (fat fullShare T′.mir l 0 (mach h)) ∷ Γ) G
-  lend-to t z at-mem run h e l good good-q can k =
+  lend-to t z at-mem run h e l good good-x can k =
       lft-new t z (λ α. move t (1 ∷ []) $
       use1 W (later (some (λ (δ : GName). ‵ (ref h α l δ) ⊛ ‵ (kept α l δ)))) (lends T.the-type T′.the-laws T′.the-plain 𝓤 H A W (α ∷ []) l 0 h good) $ await t z $ pick t (λ δ. split t $
-      move t (2 ∷ 0 ∷ []) $ use2 W (raw (Add 𝓤 H A at-mem run .pre (to-add 𝓤 H A at-mem run h e α l δ))) (goes-add 𝓤 H A at-mem run W h e good-q can α l δ) $ k α δ))
+      move t (2 ∷ 0 ∷ []) $ use2 W (raw (Add 𝓤 H A at-mem run .pre (to-add 𝓤 H A at-mem run h e α l δ))) (goes-add 𝓤 H A at-mem run W h e good-x can α l δ) $ k α δ))
 
-  pub back-from : K → Soaks G → (at-mem : Memory → SProp 𝓤) (run : Routine → Fun 𝓤) (h : Facts) (e : Equation) (l α : ℕ) (δ : GName) (w : Val)
+  pub back-from : K → Soaks G → (at-mem : Memory → SProp 𝓤) (run : Routine → Fun 𝓤) (h : Facts) (e : Fact) (l α : ℕ) (δ : GName) (w : Val)
       → ((r : Facts) → Added h e r → w ∷ [] ≡ vunit ∷ [] → Good r → Seq K W (‵ (fat fullShare T′.mir l 0 (mach r)) ∷ Γ) G)
       → Seq K W (raw (Add 𝓤 H A at-mem run .post (to-add 𝓤 H A at-mem run h e α l δ) w) ∷ ‵ (kept α l δ) ∷ Γ) G
   back-from t z at-mem run h e l α δ w k =

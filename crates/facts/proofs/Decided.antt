@@ -6,7 +6,8 @@ use mathlib.Core.List.{List, _∷_}
 use Rattle.terms.specs.declared.term.Equation.{Equation}
 use Rattle.terms.specs.Meaning.{Valuation, truth}
 use Rattle.facts.specs.declared.decision.Decision.the-variants.{Always, Never, Open}
-use Rattle.facts.specs.Facts.{Fact, fact, Fits, Forces}
+use Rattle.facts.specs.declared.fact.Fact.{Fact}
+use Rattle.facts.specs.Facts.{fact, Fits, Forces}
 use Rattle.facts.specs.State.{State, settled, free, no-to, yes-to, state-of, decide, some-sheet}
 use Rattle.terms.proofs.Cases.{by-test}
 use Rattle.facts.proofs.StateExact.{state-exact}

@@ -8,7 +8,8 @@ use Rattle.terms.specs.declared.term.Equation.{Equation}
 use Rattle.terms.specs.Meaning.{Valuation, count}
 use Rattle.terms.specs.Words.{field, steps, term, equation}
 use Rattle.facts.specs.declared.decision.Decision.the-variants.{Always, Never, Open}
-use Rattle.facts.specs.Facts.{Fact, fact, Fits}
+use Rattle.facts.specs.declared.fact.Fact.{Fact}
+use Rattle.facts.specs.Facts.{fact, Fits}
 use Rattle.facts.specs.Least.{first-from, least-count}
 use Rattle.facts.specs.State.{plan, spacing, some-sheet, free, state-of, decide}
 use Rattle.facts.proofs.Decided.{fits-free}

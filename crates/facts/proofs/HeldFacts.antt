@@ -13,8 +13,9 @@ use Rattle.facts.specs.declared.decision.Decision.{Decision}
 use Rattle.facts.specs.declared.decision.Decision.the-variants.{Always, Never, Open}
 use Rattle.facts.specs.declared.decision.Plan.the-variants.{Clash}
 use Rattle.facts.specs.declared.record.Facts.{Facts}
-use Rattle.facts.specs.declared.working.Asked.{Asked}
-use Rattle.facts.specs.Facts.{Fact, fact, Fits, Forces}
+use Rattle.facts.specs.declared.asking.Asked.{Asked}
+use Rattle.facts.specs.declared.fact.Fact.{Fact}
+use Rattle.facts.specs.Facts.{fact, Fits, Forces}
 use Rattle.facts.specs.Least.{IsLeast, Near, All, RestsOn, least-count, fixed, least-sheet}
 use Rattle.facts.specs.Needs.{state, last-field, most-noes, most-offset, question-at, noes-in, Small, AllSmall, Holds, Within, Askable, AskedOf}
 use Rattle.terms.specs.Limits.{most-count}

@@ -13,7 +13,7 @@ use Rattle.terms.specs.Meaning.{Valuation}
 use Rattle.facts.specs.declared.least.Fixed.{Fixed}
 use Rattle.facts.specs.declared.record.Facts.{Facts}
 use Rattle.facts.specs.declared.working.Worked.{Worked}
-use Rattle.facts.specs.Facts.{Fact}
+use Rattle.facts.specs.declared.fact.Fact.{Fact}
 use Rattle.facts.specs.Least.{counts, can-count, least-count, fixed, least-sheet}
 use Rattle.facts.specs.Needs.{state, last-field, field-places, most-noes, Small, AllSmall, Holds, Askable, WorkedYes, CanFix, FixedAt, HasLeast, LeastCounts}
 use Rattle.terms.specs.Limits.{most-count}

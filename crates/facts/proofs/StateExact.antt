@@ -10,7 +10,8 @@ use lib.Dec.{eqb}
 use Rattle.terms.specs.declared.term.Equation.{Equation}
 use Rattle.terms.specs.Meaning.{Valuation, value, truth}
 use Rattle.terms.specs.Words.{field}
-use Rattle.facts.specs.Facts.{Fact, Fits}
+use Rattle.facts.specs.declared.fact.Fact.{Fact}
+use Rattle.facts.specs.Facts.{Fits}
 use Rattle.facts.specs.State.{Classes, State, at, Classed, Fit, left-side, right-side, joined, certain, planned, no-to, yes-to, work-in, start, state-of}
 use Rattle.terms.proofs.Cases.{by-eq}
 use Rattle.terms.proofs.SimplifyTruth.{count-zero}

@@ -12,7 +12,7 @@ use lib.Dec.{eqb}
 use Rattle.terms.specs.declared.term.Equation.{Equation}
 use Rattle.terms.specs.Meaning.{Valuation, count, truth}
 use Rattle.terms.specs.Words.{field}
-use Rattle.facts.specs.Facts.{Fact}
+use Rattle.facts.specs.declared.fact.Fact.{Fact}
 use Rattle.facts.specs.State.{Classes, State, AllFalse, Classed, Fit, left-side, right-side, settled, none-settled, free, joined, planned, work-in, state-of, spacing, some-sheet}
 use Rattle.terms.proofs.Cases.{by-eq, by-test}
 use Rattle.facts.proofs.PlanCases.{plan-cases, settled-cases}

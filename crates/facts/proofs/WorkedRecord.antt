@@ -15,10 +15,11 @@ use Rattle.facts.specs.declared.decision.Decision.the-variants.{Always, 
 use Rattle.facts.specs.declared.decision.Plan.{Plan}
 use Rattle.facts.specs.declared.decision.Plan.the-variants.{Keep, Clash, Join}
 use Rattle.facts.specs.declared.record.Facts.{Facts}
-use Rattle.facts.specs.declared.working.Worked.{Worked}
-use Rattle.facts.specs.Needs.{state, last-field, most-offset, noes-in, Askable, CanJoin, WorkedYes, AskedOf}
+use Rattle.facts.specs.declared.fact.Fact.{Fact}
+use Rattle.facts.specs.Facts.{fact}
+use Rattle.facts.specs.Needs.{state, last-field, most-offset, noes-in, Askable, CanAnswerYes, CanAnswerNo, CanAnswer, CanAddFact, CanJoin, WorkedYes, AskedOf}
 use Rattle.terms.specs.Limits.{most-count}
-use Rattle.facts.specs.State.{State, settled, free, plan, plan-of, planned, yes-to, decide}
+use Rattle.facts.specs.State.{State, settled, free, plan, plan-of, planned, no-to, yes-to, work-in, decide}
 use Rattle.facts.proofs.decision.Decision.{the-type}
 use Rattle.facts.proofs.PlanCases.{plan-cases}
 
@@ -98,6 +99,34 @@ module _ (f : Facts) (q : Equation) (r : Askable f q) {x : Plan} (ex : x ≡ pla
         let same : planned (state f) (Join into from by) ≡ yes-to (state f) q = sym (yes-is ∙ ap (planned (state f)) d) in
         record { free-is = eb ∙ ap free same; state-is = λ _. e ∙ same }
 
+-- ---- a fact
+-- where the answer yes leaves some choice of counts, there is no clash
+module _ (f : Facts) (q : Equation) (can : CanAnswerYes f q) {x : Plan} (ex : x ≡ plan-of (state f .classes) q) where
+  planned-is : {p : Plan} → x ≡ p → planned (state f) p ≡ yes-to (state f) q
+  planned-is d = ap (planned (state f)) (sym d ∙ ex)
+
+  pub yes-kept : x ≡ Keep → state f ≡ yes-to (state f) q
+  yes-kept d = planned-is d
+
+  pub no-clash : x ≡ Clash → state f ≡ yes-to (state f) q
+  no-clash d = absurd (false≢true (sym (clash-not-free (state f)) ∙ ap free (planned-is d) ∙ can .leaves-some))
+
+  pub yes-joined : {into from by : ℕ} (g : Facts) → x ≡ Join into from by → state g ≡ planned (state f) (Join into from by) → state g ≡ yes-to (state f) q
+  yes-joined g d e = e ∙ planned-is d
+
+module _ (f : Facts) (x : Fact) (can : CanAddFact f x) where
+  pub can-answer-yes : x .answer ≡ true → CanAnswerYes f (x .question)
+  can-answer-yes e = subst (CanAnswer f (x .question)) e (can .can)
+
+  pub can-answer-no : x .answer ≡ false → CanAnswerNo f (x .question)
+  can-answer-no e = subst (CanAnswer f (x .question)) e (can .can)
+
+  pub worked-in-yes : (g : Facts) → x .answer ≡ true → state g ≡ yes-to (state f) (x .question) → state g ≡ work-in (state f) (x .question) (x .answer)
+  worked-in-yes g a e = e ∙ ap (work-in (state f) (x .question)) (sym a)
+
+  pub worked-in-no : (g : Facts) → x .answer ≡ false → state g ≡ no-to (state f) (x .question) → state g ≡ work-in (state f) (x .question) (x .answer)
+  worked-in-no g a e = e ∙ ap (work-in (state f) (x .question)) (sym a)
+
 -- ---- a question asked
 -- the numbers of the cases that are not open
 abbrev known : List ℕ
@@ -121,5 +150,8 @@ module _ (f : Facts) (q : Equation) {d : Decision} (e : d ≡ decide (state f) q
   pub asked-known : OneOf known (tagOf the-type d) → (g : Facts) → AskedOf f q (record { decision = d; yes = g })
   asked-known h g = record { decision-is = e; yes-is = λ o. absurd (miss known 2 tt (subst (λ x. OneOf known (tagOf the-type x)) o h)) }
 
-  pub asked-open : d ≡ Open → {w : Worked} → WorkedYes f q w → AskedOf f q (record { decision = Open; yes = w .facts })
-  asked-open o y = record { decision-is = sym o ∙ e; yes-is = λ _. y .state-is (y .free-is ∙ open-free (state f) q (sym e ∙ o)) }
+  pub can-yes : d ≡ Open → Askable f q → CanAddFact f (fact q true)
+  can-yes o r = record { can = record { askable = r; leaves-some = open-free (state f) q (sym e ∙ o) } }
+
+  pub asked-open : d ≡ Open → {g : Facts} → state g ≡ yes-to (state f) q → AskedOf f q (record { decision = Open; yes = g })
+  asked-open o y = record { decision-is = sym o ∙ e; yes-is = λ _. y }

@@ -4,14 +4,11 @@ use mathlib.Core.Bool.{Bool, true, false}
 use mathlib.Core.List.{List, [], _∷_}
 use Rattle.terms.specs.declared.term.Equation.{Equation}
 use Rattle.terms.specs.Meaning.{Valuation, truth}
+use Rattle.facts.specs.declared.fact.Fact.{Fact}
 use Rattle.facts.specs.declared.decision.Decision.{Decision}
 use Rattle.facts.specs.declared.decision.Decision.the-variants.{Always, Never, Open}
 
--- a question and its answer
-pub record Fact : Type 0 where
-  pub question : Equation
-  pub answer : Bool
-
+-- a question and its answer: the struct of src/fact.rt
 abbrev pub fact : Equation → Bool → Fact
 fact q a = record { question = q; answer = a }
 

@@ -2,7 +2,7 @@
 use Prim.Native.Nat.{ℕ, zero, suc, _+_, _*_, _^_, _≤_, _<_}
 use mathlib.Core.Path.{_≡_}
 use mathlib.Core.Logic.{_≢_}
-use mathlib.Core.Bool.{true, cond}
+use mathlib.Core.Bool.{Bool, true, false, cond}
 use mathlib.Core.List.{List, [], _∷_}
 use lib.Dec.{eqb}
 use lib.ListN.{length, getD, set}
@@ -14,9 +14,9 @@ use Rattle.facts.specs.declared.decision.Decision.the-variants.{Open}
 use Rattle.facts.specs.declared.least.Fixed.{Fixed}
 use Rattle.facts.specs.declared.least.Sheet.{Sheet}
 use Rattle.facts.specs.declared.record.Facts.{Facts}
-use Rattle.facts.specs.declared.working.Asked.{Asked}
+use Rattle.facts.specs.declared.asking.Asked.{Asked}
 use Rattle.facts.specs.declared.working.Worked.{Worked}
-use Rattle.facts.specs.Facts.{Fact}
+use Rattle.facts.specs.declared.fact.Fact.{Fact}
 use Rattle.facts.specs.Least.{counts, can-count, least-count, least-sheet}
 use Rattle.facts.specs.State.{Classes, State, at, free, yes-to, state-of, decide}
 
@@ -81,10 +81,23 @@ pub record Askable (f : Facts) (q : Equation) : Type 0 where
   pub small : Small most-count q
   pub fitted : free (state f) ≡ true
 
--- what adding a question answered no requires
-pub record CanAddNo (f : Facts) (q : Equation) : Type 0 where
+-- what a question answered yes requires: it is not ruled out
+pub record CanAnswerYes (f : Facts) (q : Equation) : Type 0 where
+  pub askable : Askable f q
+  pub leaves-some : free (yes-to (state f) q) ≡ true
+
+-- what a question answered no requires
+pub record CanAnswerNo (f : Facts) (q : Equation) : Type 0 where
   pub small : Small most-count q
   pub room : f .noes < most-noes
+
+-- what adding a fact requires, by its answer
+abbrev pub CanAnswer : Facts → Equation → Bool → Type 0
+CanAnswer f q true = CanAnswerYes f q
+CanAnswer f q false = CanAnswerNo f q
+
+pub record CanAddFact (f : Facts) (x : Fact) : Type 0 where
+  pub can : CanAnswer f (x .question) (x .answer)
 
 -- what working a yes in promises: whether the state is free, and, if so, that the record has it
 pub record WorkedYes (f : Facts) (q : Equation) (r : Worked) : Type 0 where

@@ -12,7 +12,7 @@ use Rattle.facts.specs.declared.decision.Decision.{Decision}
 use Rattle.facts.specs.declared.decision.Decision.the-variants.{Always, Never, Open}
 use Rattle.facts.specs.declared.decision.Plan.{Plan}
 use Rattle.facts.specs.declared.decision.Plan.the-variants.{Keep, Clash, Join}
-use Rattle.facts.specs.Facts.{Fact}
+use Rattle.facts.specs.declared.fact.Fact.{Fact}
 
 pub record Classes : Type 0 where
   pub class : ℕ → ℕ

@@ -5,11 +5,10 @@ ghost use Prim.Native.Nat.{ℕ, _+_, _≤_, _<_, _^_};
 ghost use lib.ListN.{getD};
 ghost use Rattle.facts.specs.Needs as spec;
 ghost use Rattle.facts.specs.State as state;
-use crate::deciding::decision_of;
 use crate::deciding::join_is_free;
 use crate::deciding::plan_in;
-use crate::decision::Decision;
 use crate::decision::Plan;
+use crate::fact::Fact;
 use crate::record::FIELDS;
 use crate::record::Facts;
 use terms::Equation;
@@ -19,12 +18,6 @@ use terms::word_of;
 pub struct Worked {
     pub free: bool,
     pub facts: Facts,
-}
-
-// What the facts say of a question and, where it is open, the facts with it answered yes.
-pub struct Asked {
-    pub decision: Decision,
-    pub yes: Facts,
 }
 
 // A field moves to the class `into`, its offset `by` higher.
@@ -74,9 +67,21 @@ pub fn yes(f: Facts, q: Equation) -> Worked
     }
 }
 
-// The facts with a question answered no, by value: what `add` does to a record that is lent to it.
-pub fn with_no(mut f: Facts, q: Equation) -> Facts
-    requires { ⌜ spec.CanAddNo f q ⌝ }
+// The facts with a question answered yes, where some choice of counts fits them then.
+fn with_yes(f: Facts, q: Equation) -> Facts
+    requires { ⌜ spec.CanAnswerYes f q ⌝ }
+    ensures { λ r. ⌜ spec.state r ≡ state.yes-to (spec.state f) q ⌝ }
+{
+    match plan_in(&f.class, &f.offset, q) {
+        Plan::Keep => f,
+        Plan::Clash => f,
+        Plan::Join { into, from, by } => join(f, into, from, by),
+    }
+}
+
+// The facts with a question answered no.
+fn with_no(mut f: Facts, q: Equation) -> Facts
+    requires { ⌜ spec.CanAnswerNo f q ⌝ }
     ensures { λ r. ⌜ spec.state r ≡ state.no-to (spec.state f) q ⌝ }
 {
     let i = f.noes;
@@ -86,19 +91,14 @@ pub fn with_no(mut f: Facts, q: Equation) -> Facts
     f
 }
 
-// What the facts say of a question and, where it is open, the facts with it answered yes.
-pub fn ask(f: Facts, q: Equation) -> Asked
-    requires { ⌜ spec.Askable f q ⌝ }
-    ensures { λ r. ⌜ spec.AskedOf f q r ⌝ }
+// The facts with an answer worked in, by value: what `add` does to a record that is lent to it.
+pub fn with_fact(f: Facts, x: Fact) -> Facts
+    requires { ⌜ spec.CanAddFact f x ⌝ }
+    ensures { λ r. ⌜ spec.state r ≡ state.work-in (spec.state f) (x .question) (x .answer) ⌝ }
 {
-    let decision = decision_of(f, q);
-    let Decision::Open = decision else {
-        return Asked { decision, yes: f };
-    };
-    let w = yes(f, q);
-    let g = w.facts;
-    Asked {
-        decision: Decision::Open,
-        yes: g,
+    let q = x.question;
+    if x.answer {
+        return with_yes(f, q);
     }
+    with_no(f, q)
 }

@@ -4,7 +4,8 @@ use Prim.Native.Nat.{ℕ, _+_, _<_}
 use mathlib.Core.Path.{_≡_, refl, ap₂}
 use mathlib.Core.Bool.{true}
 use mathlib.Core.List.{List}
-use Rattle.facts.specs.Facts.{Fact, Fits}
+use Rattle.facts.specs.declared.fact.Fact.{Fact}
+use Rattle.facts.specs.Facts.{Fits}
 use Rattle.facts.specs.State.{State, free, state-of}
 use Rattle.inserting.specs.Given.{Taken}
 use Rattle.inserting.specs.SubjectMeaning.{subject-meaning}

@@ -9,7 +9,8 @@ use native.Mathlib.Omega.{arith}
 use lib.ListN.{getD}
 use Rattle.facts.specs.declared.decision.Decision.{Decision}
 use Rattle.facts.specs.declared.decision.Decision.the-variants.{Always, Never, Open}
-use Rattle.facts.specs.Facts.{Fact, Fits, Forces}
+use Rattle.facts.specs.declared.fact.Fact.{Fact}
+use Rattle.facts.specs.Facts.{Fits, Forces}
 use Rattle.facts.specs.State.{free, state-of, decide}
 use Rattle.store.specs.Layout.{field-count, question-count, question, used, leaves}
 use Rattle.store.specs.SoundParts.{Sound}

@@ -7,7 +7,8 @@ use lib.ListN.{length, getD}
 use native.Mathlib.Omega.{arith}
 use Rattle.facts.specs.declared.decision.Decision.{Decision}
 use Rattle.facts.specs.declared.decision.Decision.the-variants.{Always, Never, Open}
-use Rattle.facts.specs.Facts.{Fact, Fits, Forces}
+use Rattle.facts.specs.declared.fact.Fact.{Fact}
+use Rattle.facts.specs.Facts.{Fits, Forces}
 use Rattle.facts.specs.State.{free, state-of, decide}
 use Rattle.inserting.specs.SubjectMeaning.{subject-meaning}
 use Rattle.store.specs.Layout.{question, used, leaves}

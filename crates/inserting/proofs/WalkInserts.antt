@@ -12,7 +12,8 @@ use Rattle.diagram.specs.Insert.{then-place, insert}
 use Rattle.diagram.specs.Questions.{questions-from, finished-in}
 use Rattle.facts.specs.declared.decision.Decision.{Decision}
 use Rattle.facts.specs.declared.decision.Decision.the-variants.{Always, Never, Open}
-use Rattle.facts.specs.Facts.{Fact, fact, Fits, Forces}
+use Rattle.facts.specs.declared.fact.Fact.{Fact}
+use Rattle.facts.specs.Facts.{fact, Fits, Forces}
 use Rattle.facts.specs.State.{State, free, no-to, yes-to, start, state-of, decide}
 use Rattle.terms.specs.declared.limits.Limits.{Limits}
 use Rattle.store.specs.Layout.{question-count, question, entry-of}

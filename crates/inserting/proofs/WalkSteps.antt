@@ -8,7 +8,8 @@ use Rattle.diagram.specs.Finish.{parts, finish}
 use Rattle.diagram.specs.Insert.{then-place, leaf-handle, insert}
 use Rattle.facts.specs.declared.decision.Decision.{Decision}
 use Rattle.facts.specs.declared.decision.Decision.the-variants.{Always, Never, Open}
-use Rattle.facts.specs.Facts.{Fact, Fits}
+use Rattle.facts.specs.declared.fact.Fact.{Fact}
+use Rattle.facts.specs.Facts.{Fits}
 use Rattle.facts.specs.State.{State, free, no-to, yes-to, state-of, decide}
 use Rattle.terms.specs.declared.limits.Limits.{Limits}
 use Rattle.store.specs.Layout.{question, entry-of}

@@ -8,7 +8,7 @@ use native.Mathlib.Decide.{ℕ-discrete}
 use lib.Dec.{eqb}
 use Rattle.facts.specs.declared.decision.Decision.the-variants.{Always, Never, Open}
 use Rattle.facts.specs.declared.record.Facts.{Facts}
-use Rattle.facts.specs.declared.working.Asked.{Asked}
+use Rattle.facts.specs.declared.asking.Asked.{Asked}
 use Rattle.facts.specs.Needs.{state, AskedOf}
 use Rattle.facts.specs.State.{no-to, yes-to, decide}
 use Rattle.store.specs.declared.entries.Entry.{Entry}

@@ -9,7 +9,7 @@ use Rattle.diagram.specs.declared.placing.Placed.{Placed}
 use Rattle.facts.specs.declared.decision.Decision.{Decision}
 use Rattle.facts.specs.declared.decision.Decision.the-variants.{Open}
 use Rattle.facts.specs.declared.record.Facts.{Facts}
-use Rattle.facts.specs.declared.working.Asked.{Asked}
+use Rattle.facts.specs.declared.asking.Asked.{Asked}
 use Rattle.facts.specs.Needs.{state, most-noes, Small, Holds, Askable, AskedOf}
 use Rattle.terms.specs.Limits.{most-count}
 use Rattle.facts.specs.State.{State, no-to, decide}

@@ -1,8 +1,8 @@
 -- `ask` meets its contract: an open question leaves the facts with a yes free, so the record has them.
 use borrow.Author.Needs.{needs}
-use Rattle.facts.proofs.WorkedRecord.{asked-known, asked-open}
-use Rattle.facts.proofs.working.ask.Statement.{statement}
-use Rattle.facts.proofs.working.ask.Tie as tie
+use Rattle.facts.proofs.WorkedRecord.{can-yes, asked-known, asked-open}
+use Rattle.facts.proofs.asking.ask.Statement.{statement}
+use Rattle.facts.proofs.asking.ask.Tie as tie
 
 decision-of-requires : tie.Need-decision-of-requires
 decision-of-requires c κs = search needs
@@ -13,11 +13,11 @@ enum-told c = search needs
 returns : tie.Need-returns
 returns c = search (needs, asked-known)
 
-yes-requires : tie.Need-yes-requires
-yes-requires c κs = search needs
+added-requires : tie.Need-added-requires
+added-requires c κs = search (needs, can-yes)
 
 returns-2 : tie.Need-returns-2
 returns-2 c = search (needs, asked-open)
 
 pub ask-spec : {M : Type 1} → statement M
-ask-spec = tie.close (tie.spec decision-of-requires enum-told returns yes-requires returns-2)
+ask-spec = tie.close (tie.spec decision-of-requires enum-told returns added-requires returns-2)

@@ -1,0 +1,7 @@
+// A fact: a question and its answer.
+use terms::Equation;
+
+pub struct Fact {
+    pub question: Equation,
+    pub answer: bool,
+}
