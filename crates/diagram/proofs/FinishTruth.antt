@@ -95,7 +95,7 @@ finish-same (q ∷ qs) k xs means others t e =
     (λ o. finish-same qs (k + 1) (fact q true ∷ xs) means others (yes-free xs q t o) (λ v h. e v (h .1)))
     (λ o. finish-same qs (k + 1) (fact q false ∷ xs) means others (no-free xs q t o) (λ v h. e v (h .1)))
 
--- "two trees are equal exactly if the meanings agree"
+-- Two finished diagrams are equal exactly if the meanings agree where the facts hold.
 pub finish-exact : (qs : List Equation) (k : ℕ) (xs : List Fact) (means others : Valuation → Bool) → Settles means qs xs → Settles others qs xs
     → free (state-of xs) ≡ true
     → (finish qs k (state-of xs) means ≡ finish qs k (state-of xs) others) ↔ ((v : Valuation) → Fits xs v → means v ≡ others v)
@@ -113,7 +113,7 @@ finish-constant (q ∷ qs) k s b = finish-cases (λ t. t ≡ leaf b) q qs k s (�
     (λ _. finish-constant qs (k + 1) (yes-to s q) b)
     (λ d. absurd (d (finish-constant qs (k + 1) (yes-to s q) b ∙ sym (finish-constant qs (k + 1) (no-to s q) b)))))
 
--- "so a finished diagram is a leaf exactly if the rule is never or always"
+-- So a finished diagram is a leaf exactly if the rule has one truth where the facts hold.
 pub finish-leaf : (qs : List Equation) (k : ℕ) (xs : List Fact) (means : Valuation → Bool) (b : Bool) → Settles means qs xs → free (state-of xs) ≡ true
     → (finish qs k (state-of xs) means ≡ leaf b) ↔ ((v : Valuation) → Fits xs v → means v ≡ b)
 finish-leaf qs k xs means b sm t = (

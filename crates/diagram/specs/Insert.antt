@@ -56,7 +56,7 @@ is-among t (x ∷ xs) = same-tree x t || is-among t xs
 unfoldable pub collect : List ℕ → Tree → List Tree → List Tree
 collect s t xs = cond (is-stored s t || is-among t xs) xs (t ∷ xs)
 
--- "the different entries of the finished diagram that weren't there before": those of a diagram, collected after others
+-- "different entries of the finished diagram that weren't there before": those of a diagram, collected after others
 unfoldable pub new-trees : List ℕ → Tree → List Tree → List Tree
 new-trees s (leaf b) xs = xs
 new-trees s (node k y n) xs = collect s (node k y n) (new-trees s n (new-trees s y xs))

@@ -24,7 +24,7 @@ fits-free xs v h = fit-free (state-of xs) v (state-exact xs v .1 h)
 pub no-to-free : (s : State) (q : Equation) → free s ≡ true → settled (s .classes) q ≡ false → free (no-to s q) ≡ true
 no-to-free s q f n = rw n f
 
--- "The decision is right in all three answers": of consistent facts
+-- The decision is right in all three answers, where some choice of counts fits the facts.
 pub decided : (xs : List Fact) (q : Equation) → free (state-of xs) ≡ true → Forces xs q (decide (state-of xs) q)
 unfolding decide
 decided xs q t =

@@ -162,7 +162,7 @@ module _ {most-no most : ℕ} {f : Facts} (h : Holds most-no most f) where
   holds-ready l m q small = record { within = holds-within l m; small = small; fitted = h .fitted }
 
   -- ---- what asking gives
-  -- "The decision is right in all three answers" of the facts that the record holds.
+  -- The decision is right in all three answers, for the facts that the record holds.
   pub asked-forces : (q : Equation) (r : Asked) → AskedOf f q r → Forces (h .facts) q (r .decision)
   asked-forces q r a = subst (Forces (h .facts) q) (sym (a .decision-is ∙ ap (λ s. decide s q) (h .is))) (decided (h .facts) q (sym (ap free (h .is)) ∙ h .fitted))
 

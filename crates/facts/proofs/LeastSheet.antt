@@ -97,6 +97,6 @@ module _ (n : ℕ) (s : State) (z : ZeroKept (s .classes)) (t : free s ≡ true)
   pub least-sheet-fits : Fit (fixed n s) (least-sheet n s)
   least-sheet-fits = free-fit (fixed n s) (fixed-zero n s z) (fixed-free n s z t)
 
-  -- "it fits, no fitting sheet is before it"
+  -- no fitting sheet is before it
   pub least-sheet-least : IsLeast n (Fit s) (least-sheet n s)
   least-sheet-least = fixed-least (least-sheet n s) least-sheet-fits

@@ -1,4 +1,4 @@
--- A sheet as a choice of counts: "n counts, field 1 first".
+-- A sheet as a choice of counts: "n counts (16-bit), field 1 first".
 use Prim.Native.Nat.{ℕ, _-_}
 use mathlib.Core.List.{List}
 use lib.ListN.{getD}

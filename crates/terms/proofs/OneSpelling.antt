@@ -92,10 +92,10 @@ module _ (p q : Equation) (sp : SimplifiedForm p) (sq : SimplifiedForm q) where
       let e : value v (q .left) ≡ value v (q .right) = eqb-true (value v (q .left)) (value v (q .right)) t in
       elim (ℕ-discrete (q .left .field .0) (p .left .field .0)) [ yes x ↦ same-left x e | no n ↦ absurd (other-left n e) ]
 
--- "two different simplified questions differ in truth under some choice of counts"
+-- Two different simplified questions differ in truth under some choice of counts.
 pub told-apart : (p q : Equation) → SimplifiedForm p → SimplifiedForm q → p ≢ q → truth (apart p q) p ≢ truth (apart p q) q
 told-apart p q sp sq n e = n (both-true p q sp sq (sym e ∙ first-true p q sp sq))
 
--- "so no question has a second spelling"
+-- So no question has a second spelling.
 pub one-spelling : (p q : Equation) → SimplifiedForm p → SimplifiedForm q → ((v : Valuation) → truth v p ≡ truth v q) → p ≡ q
 one-spelling p q sp sq h = both-true p q sp sq (sym (h (apart p q)) ∙ first-true p q sp sq)

@@ -50,7 +50,7 @@ simplify-form e = simplify-cases (IfQuestion SimplifiedForm) e (λ _ _. tt) (λ 
     go d (kept h) = settled-form e h
     go d (swapped h) = settled-form (turned e) h
 
--- "a question that simplify returns is simplified in the sense of document 000, Corollary 25"
+-- A question that simplify returns is simplified in the sense of document 000, Corollary 25,
 pub question-simplified : (e q : Equation) → simplify e ≡ Question q → SimplifiedForm q
 question-simplified e q i = rw i at (simplify-form e)
 
@@ -82,7 +82,7 @@ module _ (q : Equation) where
   stays-settled : (q .right .field .0 ≡ 0 → q .left .steps .0 ≡ 0) → never-or-question q ≡ Question q
   stays-settled z = never-or-question-cases (λ g. g ≡ Question q) q (λ o h. absurd (omega (arith, z o))) (λ _. refl)
 
-  -- "and simplifies to itself"
+  -- and simplifies to itself.
   pub simplified-stays : SimplifiedForm q → simplify q ≡ Question q
   unfolding simplify
   simplified-stays s =
@@ -122,7 +122,7 @@ sorted-turned e n =
 eqb-sym : (a b : ℕ) → eqb a b ≡ eqb b a
 eqb-sym a b = same-test a b b a sym sym
 
--- "an equation written the other way round gets the same answer"
+-- An equation written the other way round gets the same answer.
 pub simplify-turned : (e : Equation) → simplify (turned e) ≡ simplify e
 unfolding simplify
 simplify-turned e =

@@ -37,7 +37,7 @@ module _ (v : Valuation) (e : Equation) where
       (λ z h. let n : value v (e .left) ≢ value v (e .right) = λ i. omega (arith, count-zero v (e .right .field) z) in sym (ne-eqb _ _ n))
       (λ _. lowered-truth)
 
--- "the answer has the equation's truth under every choice of counts"
+-- The answer has the equation's truth under every choice of counts.
 pub simplify-truth : (v : Valuation) (e : Equation) → guard-truth v (simplify e) ≡ truth v e
 simplify-truth v e = simplify-cases (λ g. guard-truth v g ≡ truth v e) e
     (λ f s. sym (eq-eqb (value v (e .left)) (value v (e .right)) (omega (arith, same-count f))))

@@ -24,7 +24,7 @@ fields-first e = e .left .field .0 ∷ e .right .field .0 ∷ e .left .steps .0 
 abbrev pub before : Order → Equation → Equation → Bool
 before order p q = lex (order p) (order q)
 
--- "a total order ≺ on simplified guards" (Definition 27), here of all equations
+-- The order on simplified guards (Definition 27) is total; here, on all equations.
 pub record StrictTotal (precedes : Equation → Equation → Bool) : Type 0 where
   pub irreflexive : (p : Equation) → precedes p p ≡ false
   pub transitive : (p q r : Equation) → precedes p q ≡ true → precedes q r ≡ true → precedes p r ≡ true

@@ -30,7 +30,7 @@ lowered e =
     let k = min (e .left .steps .0) (e .right .steps .0) in
     equation (less-steps k (e .left)) (less-steps k (e .right))
 
--- "If the right field is then 0 and steps remain on the left, the equation is never. All else is a question."
+-- "If the right field is then 0 and steps remain on the left, the equation is never."; "All else is a question."
 unfoldable pub never-or-question : Equation → Guard
 never-or-question e = cond (eqb (e .right .field .0) 0 && ltb 0 (e .left .steps .0)) guard.Never (guard.Question e)
 

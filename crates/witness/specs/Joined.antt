@@ -31,7 +31,7 @@ joined-both-ways limits n list first second s =
     after-building (operation.join limits w₃ b a) (λ d w₄.
     outcome (Both c d) w₄)))))
 
--- "equal handles where all is accepted"
+-- equal handles, where all is accepted
 abbrev pub SameHandles : Joins → Type 0
 SameHandles (Both one other) = one ≡ other
 SameHandles Refused = Unit {0}

@@ -72,7 +72,6 @@ module _ (limits : Limits) (s : List ℕ) (h : ℕ) (out : List ℕ) (k : ℕ) w
       })
       (λ _ e. absurd (not-rows e))) (λ _ e. absurd (not-rows e))
 
-  -- "Diagram, rule and written-back rule agree under every choice of counts"
   pub write-back-means : write-back limits s h out .answer ≡ Rows k
       → (v : Valuation) → rule-meaning (take (row-length * k) (write-back limits s h out .words)) v ≡ meaning s h v
   write-back-means e v =
