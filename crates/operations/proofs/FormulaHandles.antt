@@ -15,7 +15,7 @@ use Rattle.store.specs.Meaning.{meaning}
 use Rattle.store.specs.Open.{opening}
 use Rattle.terms.specs.declared.limits.Limits.{Limits}
 use Rattle.terms.specs.Meaning.{Valuation}
-use Rattle.operations.proofs.HandleLaw.{rule-is-meaning, call-answered, kept-after, opened-kept}
+use Rattle.operations.proofs.HandleLaw.{rule-is-meaning, call-answered, kept-after, run-kept}
 use Rattle.operations.proofs.StandingDiagrams.{stands-alike, stands-later, stands-means, stands-exact, never-stands, always-stands}
 
 -- a formula's truth under a choice of counts, each letter having the meaning of its handle at the start
@@ -71,4 +71,4 @@ pub boolean-law : (limits : Limits) (n : ℕ) (list s : List ℕ) → opening li
     → Worked limits letters (run limits (opened-books n list (length s)) calls) f h b
     → Worked limits letters (run limits (opened-books n list (length s)) calls) g k b
     → h ≡ k
-boolean-law limits n list s e calls letters f g law h k b w u = kept-boolean-law (opened-kept limits n list s e calls) {f = f} {g = g} law w u
+boolean-law limits n list s e calls letters f g law h k b w u = kept-boolean-law (run-kept limits n list s e calls) {f = f} {g = g} law w u

@@ -108,10 +108,14 @@ rule-fields k p i = rests-fields (k .sound) (k .each p i .rests)
 pub first-kept : {limits : Limits} {s : List ℕ} → Sound limits s → Kept limits (first-books s)
 first-kept snd = record { sound = snd; each = with-pair (always-stands snd) (with-pair (never-stands snd) (λ p i. elim i [ ])) }
 
--- "It starts from a store that open has just accepted, with any n, list and length.": the books after any list of calls
-module _ (limits : Limits) (n : ℕ) (list s : List ℕ) (e : opening limits n list (length s) ≡ Accepted) (calls : List Call) where
-  pub opened-kept : Kept limits (run limits (opened-books n list (length s)) calls)
-  opened-kept = kept-run (first-kept (sound-says limits (opened-words n list (length s)) (opened-sound limits n list s e))) calls
+-- "It starts from a store that open has just accepted, with any n, list and length."
+module _ (limits : Limits) (n : ℕ) (list s : List ℕ) (e : opening limits n list (length s) ≡ Accepted) where
+  pub opened-kept : Kept limits (opened-books n list (length s))
+  opened-kept = first-kept (sound-says limits (opened-words n list (length s)) (opened-sound limits n list s e))
 
-  pub handle-law : HandleLaw (run limits (opened-books n list (length s)) calls .ledger)
-  handle-law = kept-law opened-kept
+  -- the books after any list of calls
+  pub run-kept : (calls : List Call) → Kept limits (run limits (opened-books n list (length s)) calls)
+  run-kept = kept-run opened-kept
+
+  pub handle-law : (calls : List Call) → HandleLaw (run limits (opened-books n list (length s)) calls .ledger)
+  handle-law calls = kept-law (run-kept calls)

@@ -29,7 +29,7 @@ use Rattle.store.proofs.SoundFacts.{sound-from}
 use Rattle.operations.proofs.BuiltCases.{not-both}
 use Rattle.operations.proofs.CallCases.{build-cases, call-cases}
 use Rattle.operations.proofs.FinishedInStore.{finished-ascending, finished-reduced}
-use Rattle.operations.proofs.HandleLaw.{opened-kept}
+use Rattle.operations.proofs.HandleLaw.{run-kept}
 use Rattle.operations.proofs.MeaningAdded.{added-cases}
 
 -- ---- 22
@@ -45,7 +45,7 @@ sound-not-refused {limits} {s} snd c = call-cases limits s (λ o. o .answer ≢ 
 -- In a run from an accepted open no call answers 22.
 pub never-not-sound : (limits : Limits) (n : ℕ) (list s : List ℕ) → opening limits n list (length s) ≡ Accepted → (calls : List Call) (c : Call)
     → answer-to limits (run limits (opened-books n list (length s)) calls .words) c .answer ≢ Refused NotSound
-never-not-sound limits n list s e calls = sound-not-refused (opened-kept limits n list s e calls .sound)
+never-not-sound limits n list s e calls = sound-not-refused (run-kept limits n list s e calls .sound)
 
 -- ---- 51
 module _ {limits : Limits} {s : List ℕ} (snd : Sound limits s) (means : Valuation → Bool) where

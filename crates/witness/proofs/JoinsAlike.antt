@@ -20,7 +20,7 @@ use Rattle.witness.specs.declared.joining.Joins.{Joins}
 use Rattle.witness.specs.declared.joining.Joins.the-variants.{Refused}
 use Rattle.witness.specs.Joined.{SameHandles, after-opening, after-building, joined-both-ways}
 use Rattle.operations.proofs.BuiltCases.{built-cases}
-use Rattle.operations.proofs.HandleLaw.{rule-is-meaning, opened-kept, handle-law}
+use Rattle.operations.proofs.HandleLaw.{rule-is-meaning, run-kept, handle-law}
 use Rattle.operations.proofs.StandingDiagrams.{stands-means}
 
 and-turned : (x y : Bool) → (x && y) ≡ (y && x)
@@ -64,11 +64,11 @@ module _ (limits : Limits) (n : ℕ) (list s first second : List ℕ) (e : openi
       (e₃ : answer-at (join a b) books₂ ≡ Handle c) (e₄ : answer-at (join b a) books₃ ≡ Handle d) where
     kept₂ : Kept limits books₂
     unfolding run
-    kept₂ = opened-kept limits n list s e (build first ∷ build second ∷ [])
+    kept₂ = run-kept limits n list s e (build first ∷ build second ∷ [])
 
     kept₃ : Kept limits books₃
     unfolding run
-    kept₃ = opened-kept limits n list s e (build first ∷ build second ∷ join a b ∷ [])
+    kept₃ = run-kept limits n list s e (build first ∷ build second ∷ join a b ∷ [])
 
     first-in : In (pair a (rule-meaning first)) (books₂ .ledger)
     first-in = stays (books₁ .ledger) (rule-meaning second) (answer-at (build second) books₁) b e₂ (pair a (rule-meaning first))
