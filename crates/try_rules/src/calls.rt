@@ -1,186 +1,143 @@
-// Calls of build, negate, join and choose, against the evaluator.
-use crate::chance::below;
-use crate::drawing::Nodes;
-use crate::drawing::Truths;
-use crate::drawing::truth_at;
-use crate::evaluator::handle_truth;
-use crate::expecting::Answer;
-use crate::expecting::Call;
-use crate::expecting::expect;
-use crate::grid::sheet_of;
-use crate::grid::sheets_of;
-use crate::layout::fields;
-use crate::layout::used;
-use crate::ledger::Ledger;
+// Generated calls of build, negate, join and choose, against the evaluator.
+use crate::chance::Thrown;
+use crate::chance::throw;
 use crate::ledger::enter;
 use crate::rules::Table;
 use crate::rules::throw_table;
-use crate::tally::Tally;
-use crate::tally::agree;
-use crate::tally::expect_number;
-use crate::words::same_words;
-use operations::Built;
+use crate::run::Run;
+use crate::run::agree;
+use crate::run::count;
+use crate::run::expect_answer;
+use evaluator::Call;
+use evaluator::accepted;
+use evaluator::call_of;
+use evaluator::call_truth;
+use evaluator::differences;
+use evaluator::expect_added;
+use evaluator::fields;
+use evaluator::first_counts;
+use evaluator::first_words;
+use evaluator::same_words;
+use evaluator::sheet_of;
+use evaluator::sheets_of;
+use evaluator::used;
+use sheet::Answer;
+use sheet::sheet_build;
+use sheet::sheet_choose;
+use sheet::sheet_join;
+use sheet::sheet_negate;
+use sheet::sheet_read;
 
 // Any handle of the store, now and then one that it has not.
-pub fn throw_handle(seed: &mut [u64; 1], store: &[u32]) -> u32 {
+pub fn throw_handle(seed: u64, store: &[u32]) -> Thrown {
     let handles = used(store) % 4097 + 2;
-    match below(seed, 40) {
-        0 => handles + below(seed, 3) % 3,
-        1 => 4294967295,
-        _ => below(seed, handles),
+    let way = throw(seed, 40);
+    if way.number > 1 {
+        return throw(way.seed, handles);
     }
-}
-
-fn throw_call(seed: &mut [u64; 1], store: &[u32]) -> Call {
-    let kind = below(seed, 5) % 5 + 1;
-    let a = throw_handle(seed, store);
-    let b = throw_handle(seed, store);
-    let c = throw_handle(seed, store);
-    if kind < 2 {
-        return Call {
-            kind: 2,
-            a: 0,
-            b: 0,
-            c: 0,
+    if way.number == 1 {
+        return Thrown {
+            number: 4294967295,
+            seed: way.seed,
         };
     }
-    Call {
-        kind: kind,
-        a: a,
-        b: b,
-        c: c,
+    let more = throw(way.seed, 3);
+    Thrown {
+        number: handles + more.number,
+        seed: more.seed,
     }
 }
 
-pub fn perform(call: Call, table: &[u32], store: &mut [u32]) -> Built {
+// A call with a table for it, and the seed after both.
+struct Next {
+    table: Table,
+    call: Call,
+    seed: u64,
+}
+
+fn throw_next(seed: u64, store: &[u32]) -> Next {
+    let table = throw_table(seed, store);
+    let kind = throw(table.seed, 5);
+    let a = throw_handle(kind.seed, store);
+    let b = throw_handle(a.seed, store);
+    let c = throw_handle(b.seed, store);
+    Next {
+        table: table,
+        call: call_of(kind.number + 1, a.number, b.number, c.number),
+        seed: c.seed,
+    }
+}
+
+pub fn perform(call: Call, table: &[u32], store: &mut [u32]) -> Answer {
     let kind = call.kind;
     match kind {
-        2 => building::build(table, store),
-        3 => building::negate(call.a, store),
-        4 => building::join(call.a, call.b, store),
-        _ => building::choose(call.a, call.b, call.c, store),
+        2 => sheet_build(store, table),
+        3 => sheet_negate(store, call.a),
+        4 => sheet_join(store, call.a, call.b),
+        _ => sheet_choose(store, call.a, call.b, call.c),
     }
 }
 
-fn answer_of(b: Built) -> Answer {
-    Answer {
-        number: building::built_number(b),
-        result: building::built_result(b),
-    }
-}
-
-// The diagram of an accepted call against the meaning that it stands for, at one sheet of the grid, and at some what read answers.
-fn compare_sheet(tally: &mut Tally, store: &[u32], handle: u32, truth: bool, number: u32) {
+// What read answers for the diagram of an accepted call, at a sheet of the grid.
+fn compare_read(
+    run: Run,
+    call: Call,
+    table: &[u32],
+    store: &[u32],
+    handle: u32,
+    number: u32,
+) -> Run {
     let sheet = sheet_of(fields(store), number);
-    agree(tally, handle_truth(store, handle, &sheet) == truth);
-    if number % 16 == 3 {
-        compare_read(tally, store, handle, truth, &sheet);
+    let found = sheet_read(store, handle, first_counts(&sheet, fields(store) as usize));
+    let truth = call_truth(call, table, store, number);
+    expect_answer(run, found, accepted(truth as u32))
+}
+
+// The same at every sixteenth sheet, from the fourth on.
+fn compare_reads(mut run: Run, call: Call, table: &[u32], store: &[u32], handle: u32) -> Run {
+    let sheets = sheets_of(fields(store)) % 1024;
+    for i in 0..(sheets + 12) / 16 {
+        run = compare_read(run, call, table, store, handle, 16 * i + 3);
     }
+    run
 }
 
-pub fn compare_read(tally: &mut Tally, store: &[u32], handle: u32, truth: bool, sheet: &[u16]) {
-    let n = fields(store) as usize;
-    if n <= sheet.len() {
-        let r = sheets::read(store, handle, &sheet[0..n]);
-        agree(tally, sheets::read_number(r) == 0);
-        agree(tally, (sheets::read_result(r) == 1) == truth);
+// The diagram of an accepted call against the meaning that it stands for, at all sheets of the grid. Its handle is entered into the ledger.
+fn compare_sheets(run: Run, call: Call, table: &[u32], store: &[u32], found: Answer) -> Run {
+    if found.number != 0 {
+        return run;
     }
+    let differ = differences(call, table, store, found.result);
+    let compared = count(enter(run, found.result), sheets_of(fields(store)), differ);
+    compare_reads(compared, call, table, store, found.result)
 }
 
-fn compare_sheets(tally: &mut Tally, store: &[u32], handle: u32, truths: &Truths) {
-    for number in 0..sheets_of(fields(store)) {
-        compare_sheet(tally, store, handle, truth_at(truths, number), number);
-    }
-}
-
-fn compare_answer(tally: &mut Tally, found: Answer, expected: Answer) {
-    expect_number(tally, found.number, expected.number);
-    agree(tally, found.result == expected.result);
-}
-
-// One call; an accepted one is entered into the ledger.
-pub fn try_call(
-    tally: &mut Tally,
-    call: Call,
-    table: &[u32],
-    store: &mut [u32],
-    truths: &mut Truths,
-    nodes: &mut Nodes,
-    words: &mut [u32],
-    ledger: &mut Ledger,
-) {
-    let expected = expect(call, table, store, truths, nodes, words);
-    let found = answer_of(perform(call, table, store));
-    compare_answer(tally, found, expected);
-    agree(tally, same_words(store, words));
-    if found.number == 0 {
-        compare_sheets(tally, store, found.result, truths);
-        enter(ledger, found.result);
-    }
-}
-
-// The call, with the words of its table that count.
-fn try_part(
-    tally: &mut Tally,
-    call: Call,
-    table: &[u32],
-    end: usize,
-    store: &mut [u32],
-    truths: &mut Truths,
-    nodes: &mut Nodes,
-    words: &mut [u32],
-    ledger: &mut Ledger,
-) {
-    if end <= table.len() {
-        try_call(
-            tally,
-            call,
-            &table[0..end],
-            store,
-            truths,
-            nodes,
-            words,
-            ledger,
-        );
-    }
-}
-
-fn try_table(
-    tally: &mut Tally,
-    call: Call,
-    table: &Table,
-    end: usize,
-    store: &mut [u32],
-    truths: &mut Truths,
-    nodes: &mut Nodes,
-    words: &mut [u32],
-    ledger: &mut Ledger,
-) {
-    try_part(tally, call, table, end, store, truths, nodes, words, ledger);
+pub fn try_call(run: Run, call: Call, table: &[u32], store: &mut [u32]) -> Run {
+    let mut words = [0u32; 1024];
+    let expected = expect_added(call, table, store, &mut words);
+    let found = perform(call, table, store);
+    let answered = expect_answer(run, found, expected);
+    let compared = agree(answered, same_words(store, &words));
+    compare_sheets(compared, call, table, store, found)
 }
 
 // One generated call.
-pub fn try_thrown(
-    seed: &mut [u64; 1],
-    tally: &mut Tally,
-    store: &mut [u32],
-    truths: &mut Truths,
-    nodes: &mut Nodes,
-    words: &mut [u32],
-    ledger: &mut Ledger,
-) {
-    let mut table = [0u32; 64];
-    let end = throw_table(seed, store, &mut table) as usize;
-    let call = throw_call(seed, store);
-    try_table(
-        tally,
-        call,
-        &table,
-        end,
+fn try_next(mut run: Run, store: &mut [u32]) -> Run {
+    let next = throw_next(run.seed, store);
+    let table = next.table;
+    let words = table.words;
+    run.seed = next.seed;
+    try_call(
+        run,
+        next.call,
+        first_words(&words, table.length as usize),
         store,
-        truths,
-        nodes,
-        words,
-        ledger,
-    );
+    )
+}
+
+pub fn try_calls(mut run: Run, store: &mut [u32]) -> Run {
+    for i in 0..12u32 {
+        run = try_next(run, store);
+    }
+    run
 }

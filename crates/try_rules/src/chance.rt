@@ -1,16 +1,27 @@
-// Numbers that look thrown, the same at each run.
+// Numbers that look thrown, the same at each run. What is thrown comes with the seed of what is thrown next.
+ghost use Prim.Native.Nat.{_≤_};
+
+pub struct Thrown {
+    pub number: u32,
+    pub seed: u64,
+}
 
 // The next number below a bound of at most 32,768; 0 where the bound is 0.
-pub fn below(seed: &mut [u64; 1], bound: u32) -> u32 {
-    let next = (seed[0] % 2147483648) * 1103515245 + 12345;
-    seed[0] = next % 2147483648;
+pub fn throw(seed: u64, bound: u32) -> Thrown
+    ensures { λ r. ⌜ r .number ≤ bound ⌝ }
+{
+    let next = seed % 2147483648 * 1103515245 + 12345;
+    Thrown {
+        number: below((next / 65536 % 32768) as u32, bound),
+        seed: next % 2147483648,
+    }
+}
+
+fn below(number: u32, bound: u32) -> u32
+    ensures { λ r. ⌜ r ≤ bound ⌝ }
+{
     if bound == 0 {
         return 0;
     }
-    (next / 65536 % 32768) as u32 % bound
-}
-
-// Once in so many times.
-pub fn once_in(seed: &mut [u64; 1], times: u32) -> bool {
-    below(seed, times) == 0
+    number % bound
 }

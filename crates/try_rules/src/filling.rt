@@ -1,92 +1,78 @@
 // Hand-made sound stores over the questions 1 = 0 to 1 = S19(0), with many entries.
-use crate::layout::entry_place;
-use crate::layout::next;
-use crate::layout::question_of;
-use crate::words::put;
+use evaluator::first_words;
+use evaluator::put;
+use evaluator::put_entry;
+use evaluator::question_of;
+use evaluator::write_opened;
 
 // The words of a store with 20 questions and room for 4,096 entries, and twenty more, so that the limit and not the length binds.
 pub const FULL_WORDS: usize = 12351;
 
-// The word at a place of the list: field 1, or so many steps of zero.
-pub fn step_word(place: usize) -> u32 {
-    if place % 2 == 0 {
-        return 1;
+// The questions 1 = 0, 1 = S(0) and so on, 21 of them.
+pub fn steps_list() -> [u32; 42] {
+    let mut list = [1u32; 42];
+    for i in 0..21u32 {
+        list[2 * (i as usize) + 1] = 32 * i;
     }
-    if place < 100 {
-        return (place / 2 * 32) as u32;
-    }
-    0
-}
-
-fn write_list(store: &mut [u32]) {
-    for i in 0..40usize {
-        put(store, i + 3, step_word(i));
-    }
+    list
 }
 
 // The heading and the list, with so many entries used.
-pub fn write_heading(store: &mut [u32], used: u32) {
-    put(store, 0, 1);
-    put(store, 1, 20);
+fn write_heading(store: &mut [u32], used: u32) {
+    write_opened(1, first_words(&steps_list(), 40), store);
     put(store, 2, used);
-    write_list(store);
 }
 
-pub fn write_entry(store: &mut [u32], entry: u32, question: u32, yes: u32, no: u32) {
-    let place = entry_place(store, entry);
-    put(store, place, question);
-    put(store, next(place), yes);
-    put(store, next(next(place)), no);
-}
+// An entry's words.
+struct Entry(u32, u32, u32);
 
-// The j-th pair of two different handles below a number.
-fn first_of_pair(j: u32, handles: u32) -> u32 {
-    if handles < 2 {
-        return 0;
+// The j-th pair of two different handles, of which each has so many others.
+fn pair(question: u32, j: u32, others: u32) -> Entry {
+    if others == 0 {
+        return Entry(question, 0, 0);
     }
-    j / (handles - 1)
+    Entry(question, j / others, after(j % others, j / others))
 }
 
-fn second_of_pair(j: u32, handles: u32) -> u32 {
-    if handles < 2 {
-        return 1;
+// The number, or the next one, so that it is never the other.
+fn after(number: u32, other: u32) -> u32 {
+    if number < other {
+        return number;
     }
-    let second = j % (handles - 1) % 4096;
-    if second < first_of_pair(j, handles) {
-        return second;
-    }
-    second + 1
-}
-
-fn write_pair(store: &mut [u32], entry: u32, question: u32, j: u32, handles: u32) {
-    write_entry(
-        store,
-        entry,
-        question,
-        first_of_pair(j, handles),
-        second_of_pair(j, handles),
-    );
+    number % 4096 + 1
 }
 
 // The entries in turn: the pairs of the two leaves at question 20, those of the four handles then there at question 19, of sixteen at question
-// 18, of 256 at question 17.
-fn write_next(store: &mut [u32], entry: u32) {
+// 18, of 256 at question 17; then the two of the leaves at question 1, of which the first is the 4,096th entry.
+fn entry_at(entry: u32) -> Entry {
     if entry < 2 {
-        return write_pair(store, entry, 20, entry, 2);
+        return pair(20, entry, 1);
     }
     if entry < 14 {
-        return write_pair(store, entry, 19, entry - 2, 4);
+        return pair(19, entry - 2, 3);
     }
     if entry < 254 {
-        return write_pair(store, entry, 18, entry - 14, 16);
+        return pair(18, entry - 14, 15);
     }
-    write_pair(store, entry, 17, entry - 254, 256)
+    if entry < 4095 {
+        return pair(17, entry - 254, 255);
+    }
+    pair(1, 4096 - entry % 4097, 1)
 }
 
-pub fn write_pairs(store: &mut [u32], entries: u32) {
+fn write_entries(store: &mut [u32], entries: u32) {
     for i in 0..entries {
-        write_next(store, i);
+        let entry = entry_at(i);
+        put_entry(store, i, entry.0, entry.1, entry.2);
     }
+}
+
+// A store with so many of these entries.
+pub fn filled(entries: u32) -> [u32; FULL_WORDS] {
+    let mut store = [0u32; FULL_WORDS];
+    write_heading(&mut store, entries);
+    write_entries(&mut store, entries);
+    store
 }
 
 // The question number of a handle; a leaf comes after all.
@@ -101,9 +87,6 @@ fn asks(store: &[u32], handle: u32) -> u32 {
 fn before(store: &[u32], a: u32, b: u32) -> u32 {
     let first = asks(store, a);
     let second = asks(store, b);
-    if first == 0 || second == 0 {
-        return 0;
-    }
     if first < second {
         return before_one(first);
     }
@@ -118,15 +101,25 @@ fn before_one(question: u32) -> u32 {
 }
 
 // An entry over two handles, of which the second may be a leaf.
-pub fn write_over(store: &mut [u32], entry: u32, yes: u32, no: u32) {
+fn write_over(store: &mut [u32], entry: u32, yes: u32, no: u32) {
     let question = before(store, yes, no);
-    write_entry(store, entry, question, yes, no);
+    put_entry(store, entry, question, yes, no);
 }
 
-// A tree over the 57 entries of question 18 that follow the first fourteen: each next entry is over the next two handles that have none above
-// them. Its root is handle 128 and reaches 127 entries.
-pub fn write_tree(store: &mut [u32]) {
+// Each next entry is over the next two handles that have none above them.
+fn write_tree(store: &mut [u32]) {
     for t in 0..56u32 {
         write_over(store, 71 + t, 16 + 2 * t, 17 + 2 * t);
     }
+}
+
+// A store with a tree over the 57 entries of question 18 that follow the first fourteen. The tree's root is handle 128 and reaches 127 entries;
+// handle 129 is over the root and never.
+pub fn tree() -> [u32; 430] {
+    let mut store = [0u32; 430];
+    write_heading(&mut store, 128);
+    write_entries(&mut store, 71);
+    write_tree(&mut store);
+    write_over(&mut store, 127, 128, 0);
+    store
 }

@@ -1,241 +1,208 @@
 // Words that are no store: every call that takes a store answers 22 and leaves the words as they are.
+use crate::asking::ask_example;
 use crate::asking::ask_handles;
+use crate::asking::ask_read;
+use crate::asking::ask_verdict;
 use crate::calls::perform;
-use crate::chance::below;
-use crate::expecting::Call;
-use crate::grid::covers;
-use crate::sound::is_sound;
-use crate::tally::Tally;
-use crate::tally::agree;
-use crate::tally::expect_number;
-use crate::words::copy;
-use crate::words::put;
-use crate::words::same_words;
+use crate::chance::Thrown;
+use crate::chance::throw;
+use crate::filling::FULL_WORDS;
+use crate::run::Run;
+use crate::run::agree;
+use crate::run::expect_answer;
+use crate::writing::ask_written;
+use evaluator::call_fault;
+use evaluator::call_of;
+use evaluator::copy;
+use evaluator::covers;
+use evaluator::first_words;
+use evaluator::is_sound;
+use evaluator::put;
+use evaluator::refused;
+use evaluator::same_words;
 
 // A sound store to break: case 6's, with room for one entry more, and one word left over.
-const WORDS: usize = 25;
+const CASE_6: [u32; 25] = [
+    3,
+    3,
+    4,
+    2,
+    1,
+    3,
+    1,
+    3,
+    2,
+    2,
+    1,
+    0,
+    3,
+    1,
+    0,
+    2,
+    0,
+    3,
+    1,
+    2,
+    4,
+    0,
+    0,
+    0,
+    0,
+];
 
-fn case_6() -> [u32; WORDS] {
-    [
-        3,
-        3,
-        4,
-        2,
-        1,
-        3,
-        1,
-        3,
-        2,
-        2,
-        1,
-        0,
-        3,
-        1,
-        0,
-        2,
-        0,
-        3,
-        1,
-        2,
-        4,
-        0,
-        0,
-        0,
-        0,
-    ]
+// How many changes break that store.
+const CHANGES: usize = 28;
+
+// The changes that break it, each as one number: the way to break it, in which a change belongs, the place, and the word.
+const CHANGED: [u64; CHANGES] = [
+    // n above 16, and a field above n
+    00_00_0000000017,
+    01_00_0000000002,
+    // more than 20 questions, and more than there are words for
+    02_01_0000000021,
+    03_01_4294967295,
+    04_01_0000000012,
+    // steps above 255, always, never, and steps on both sides
+    05_04_0000008193,
+    06_04_0000000002,
+    07_04_0000000034,
+    08_03_0000000034,
+    08_04_0000000033,
+    // not in order, and one question twice
+    09_03_0000000003,
+    09_05_0000000002,
+    10_08_0000000001,
+    // more used than there is room for
+    11_02_0000000006,
+    12_02_4294967295,
+    // a question number of 0, and one above q
+    13_09_0000000000,
+    14_09_0000000004,
+    // an entry that names itself, and a later one
+    15_19_0000000005,
+    16_19_0000000006,
+    // equal handles
+    17_10_0000000000,
+    // a question number that is not below those of the entries it names
+    18_18_0000000002,
+    // an entry twice
+    19_02_0000000005,
+    19_21_0000000001,
+    19_22_0000000002,
+    19_23_0000000004,
+    // words after the used entries: in the room, and after it
+    20_21_0000000007,
+    21_24_0000000001,
+    // one entry fewer used than there are
+    22_02_0000000003,
+];
+
+fn change(store: &mut [u32; 25], way: u64, changed: u64) {
+    let place = (changed / 10000000000 % 100) as usize;
+    if changed / 1000000000000 == way {
+        if place < 25 {
+            store[place] = (changed % 10000000000 % 4294967296) as u32;
+        }
+    }
 }
 
-// The four calls that add.
-fn refuse_call(tally: &mut Tally, kind: u32, store: &mut [u32]) {
-    let b = perform(
-        Call {
-            kind: kind,
-            a: 9,
-            b: 0,
-            c: 1,
-        },
-        &[7, 7, 7],
-        store,
-    );
-    expect_number(tally, building::built_number(b), 22);
-    agree(tally, building::built_result(b) == 0);
+// The store broken in one way.
+fn broken(way: u64) -> [u32; 25] {
+    let mut store = CASE_6;
+    for i in 0..CHANGES {
+        change(&mut store, way, CHANGED[i]);
+    }
+    store
 }
 
-// The four that only read the store.
-fn refuse_verdict(tally: &mut Tally, store: &[u32]) {
-    let v = verdicts::verdict_of(store, 9);
-    expect_number(tally, verdicts::verdict_number(v), 22);
-    agree(tally, verdicts::verdict_result(v) == 0);
+// A call that adds, of handles that are there or not.
+fn refuse_call(run: Run, kind: u32, store: &mut [u32]) -> Run {
+    let call = call_of(kind, 9, 0, 1);
+    let expected = refused(call_fault(call, &[7, 7, 7], store));
+    expect_answer(run, perform(call, &[7, 7, 7], store), expected)
 }
 
-fn refuse_read(tally: &mut Tally, store: &[u32]) {
-    let r = sheets::read(store, 9, &[1]);
-    expect_number(tally, sheets::read_number(r), 22);
-    agree(tally, sheets::read_result(r) == 0);
+fn refuse_calls(mut run: Run, store: &mut [u32]) -> Run {
+    for kind in 2..6u32 {
+        run = refuse_call(run, kind, store);
+    }
+    run
 }
 
-fn refuse_example(tally: &mut Tally, store: &[u32]) {
-    let mut counts = [7u16; 3];
-    let e = examples::example_of(store, 9, &mut counts);
-    expect_number(tally, examples::example_number(e), 22);
-    agree(tally, counts[0] == 7 && counts[1] == 7 && counts[2] == 7);
-}
-
-fn refuse_write_back(tally: &mut Tally, store: &[u32]) {
-    let mut out = [7u32; 2];
-    let w = tables::write_back(store, 9, &mut out);
-    expect_number(tally, tables::written_number(w), 22);
-    agree(
-        tally,
-        tables::written_result(w) == 0 && out[0] == 7 && out[1] == 7,
-    );
-}
-
-fn refuse_reading(tally: &mut Tally, store: &[u32]) {
-    refuse_verdict(tally, store);
-    refuse_read(tally, store);
-    refuse_example(tally, store);
-    refuse_write_back(tally, store);
+// The four calls that add, on a copy of the words, of which none changes.
+fn refuse_copy(run: Run, store: &[u32], words: &mut [u32]) -> Run {
+    copy(store, words);
+    let called = refuse_calls(run, words);
+    agree(called, same_words(store, words))
 }
 
 // All calls on words that the evaluator doesn't take for a sound store.
-pub fn refuse_all(tally: &mut Tally, store: &mut [u32], words: &mut [u32]) {
-    copy(store, words);
-    refuse_call(tally, 2, store);
-    refuse_call(tally, 3, store);
-    refuse_call(tally, 4, store);
-    refuse_call(tally, 5, store);
-    refuse_reading(tally, store);
-    agree(tally, same_words(store, words));
-}
-
-// A question that is not simplified, or the list in another order.
-fn break_list(store: &mut [u32], unordered: bool) {
-    if unordered {
-        put(store, 3, 3);
-        put(store, 5, 2);
-    } else {
-        put(store, 3, 34);
-        put(store, 4, 33);
+pub fn refuse_all(run: Run, store: &[u32]) -> Run {
+    let mut words = [0u32; FULL_WORDS];
+    let end = store.len();
+    if end > FULL_WORDS {
+        return run;
     }
+    let called = refuse_copy(run, store, &mut words[0..end]);
+    let read = ask_read(ask_verdict(called, store, 9), store, 9, &[1]);
+    ask_written(ask_example(read, store, 9, 3), store, 9, 2)
 }
 
-// The last entry a second time.
-fn add_twice(store: &mut [u32]) {
-    put(store, 2, 5);
-    put(store, 21, 1);
-    put(store, 22, 2);
-    put(store, 23, 4);
-}
-
-// Breaks the heading and the list in one way.
-fn break_heading(store: &mut [u32], way: u32) {
-    match way {
-        // n above 16, and a field above n
-        0 => put(store, 0, 17),
-        1 => put(store, 0, 2),
-        // more than 20 questions, and more than there are words for
-        2 => put(store, 1, 21),
-        3 => put(store, 1, 4294967295),
-        4 => put(store, 1, 12),
-        // steps above 255, always, never, and steps on both sides
-        5 => put(store, 4, 8193),
-        6 => put(store, 4, 2),
-        7 => put(store, 4, 34),
-        8 => break_list(store, false),
-        // not in order, and one question twice
-        9 => break_list(store, true),
-        _ => put(store, 8, 1),
+pub fn try_all_broken(mut run: Run) -> Run {
+    for way in 0..23u64 {
+        let store = broken(way);
+        run = refuse_all(agree(run, !is_sound(&store)), &store);
     }
-}
-
-// Breaks the entries in one way.
-fn break_entries(store: &mut [u32], way: u32) {
-    match way {
-        // more used than there is room for
-        11 => put(store, 2, 6),
-        12 => put(store, 2, 4294967295),
-        // a question number of 0, and one above q
-        13 => put(store, 9, 0),
-        14 => put(store, 9, 4),
-        // an entry that names itself, and a later one
-        15 => put(store, 19, 5),
-        16 => put(store, 19, 6),
-        // equal handles
-        17 => put(store, 10, 0),
-        // a question number that is not below those of the entries it names
-        18 => put(store, 18, 2),
-        // an entry twice
-        19 => add_twice(store),
-        // words after the used entries: in the room, and after it
-        20 => put(store, 21, 7),
-        21 => put(store, 24, 1),
-        // one entry fewer used than there are
-        _ => put(store, 2, 3),
-    }
-}
-
-fn break_store(store: &mut [u32], way: u32) {
-    if way < 11 {
-        return break_heading(store, way);
-    }
-    break_entries(store, way)
-}
-
-fn refuse_broken(tally: &mut Tally, way: u32, store: &mut [u32], words: &mut [u32]) {
-    break_store(store, way);
-    agree(tally, !is_sound(store));
-    refuse_all(tally, store, words);
-}
-
-fn try_broken(tally: &mut Tally, way: u32, words: &mut [u32]) {
-    let mut store = case_6();
-    refuse_broken(tally, way, &mut store, words);
-}
-
-pub fn try_all_broken(tally: &mut Tally, words: &mut [u32]) {
-    for way in 0..23u32 {
-        try_broken(tally, way, words);
-    }
+    run
 }
 
 // Beginnings of that store: its list or its entries are cut.
-fn refuse_cut(tally: &mut Tally, length: usize, store: &mut [u32], words: &mut [u32]) {
-    if length <= store.len() {
-        refuse_all(tally, &mut store[0..length], words);
-    }
-}
-
-fn try_cut(tally: &mut Tally, length: usize, words: &mut [u32]) {
-    let mut store = case_6();
-    refuse_cut(tally, length, &mut store, words);
-}
-
-pub fn try_all_cut(tally: &mut Tally, words: &mut [u32]) {
+pub fn try_all_cut(mut run: Run) -> Run {
     for size in 0..21usize {
-        try_cut(tally, size, words);
+        run = refuse_all(run, first_words(&CASE_6, size));
     }
+    run
 }
 
 // A word to put anywhere: mostly small.
-fn throw_word(seed: &mut [u64; 1]) -> u32 {
-    match below(seed, 10) {
-        0 => 4294967295,
-        1 => below(seed, 32768),
-        _ => below(seed, 12),
+fn throw_word(seed: u64) -> Thrown {
+    let way = throw(seed, 10);
+    let number = way.number;
+    match number {
+        0 => Thrown {
+            number: 4294967295,
+            seed: way.seed,
+        },
+        1 => throw(way.seed, 32768),
+        _ => throw(way.seed, 12),
     }
 }
 
-// A sound store with one word changed: either it is sound still, and goes by meaning, or every call refuses it.
-pub fn try_changed(seed: &mut [u64; 1], tally: &mut Tally, store: &mut [u32], words: &mut [u32]) {
-    let place = below(seed, 100) as usize;
-    let word = throw_word(seed);
-    put(store, place, word);
+fn ask_changed(run: Run, store: &[u32]) -> Run {
     if !is_sound(store) {
-        refuse_all(tally, store, words);
-        return;
+        return refuse_all(run, store);
     }
     if covers(store) {
-        ask_handles(seed, tally, store);
+        return ask_handles(run, store);
     }
+    run
+}
+
+// The words of a store, one of them changed if it is there, and zeros after them.
+fn changed(store: &[u32], place: usize, word: u32) -> [u32; 512] {
+    let mut words = [0u32; 512];
+    copy(store, &mut words);
+    if place < store.len() {
+        put(&mut words, place, word);
+    }
+    words
+}
+
+// A sound store with one word changed: either it is sound still, and goes by meaning, or every call refuses it.
+pub fn try_changed(mut run: Run, store: &[u32]) -> Run {
+    let place = throw(run.seed, 100);
+    let word = throw_word(place.seed);
+    let words = changed(store, place.number as usize, word.number);
+    run.seed = word.seed;
+    ask_changed(run, first_words(&words, store.len()))
 }

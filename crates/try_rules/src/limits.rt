@@ -1,167 +1,110 @@
 // The limits: 20 and 21 questions, 256 and 257 rows, 4,096 entries and one more, 127 and 128 entries written back.
-use crate::filling::FULL_WORDS;
-use crate::filling::step_word;
-use crate::filling::write_entry;
-use crate::filling::write_heading;
-use crate::filling::write_over;
-use crate::filling::write_pairs;
-use crate::filling::write_tree;
+ghost use Prim.Native.Nat.{_≤_};
+use crate::filling::filled;
+use crate::filling::steps_list;
+use crate::filling::tree;
 use crate::hostile::refuse_all;
-use crate::layout::used;
 use crate::opening::open_and_compare;
-use crate::sound::is_sound;
-use crate::tally::Tally;
-use crate::tally::agree;
-use crate::tally::expect_number;
-use crate::words::copy;
-use crate::words::put;
-use crate::words::same_words;
-use crate::writing::compare_written;
+use crate::run::Run;
+use crate::run::agree;
+use crate::run::expect_answer;
+use crate::run::expect_number;
+use crate::writing::ask_written;
+use crate::writing::write_back;
+use evaluator::Answer;
+use evaluator::accepted;
+use evaluator::first_words;
+use evaluator::is_sound;
+use evaluator::refused;
+use evaluator::same_words;
+use evaluator::used;
+use sheet::sheet_build;
+use sheet::sheet_negate;
+use sheet::sheet_open;
 
-fn steps_of_zero(list: &mut [u32]) {
-    for i in 0..list.len() {
-        put(list, i, step_word(i));
-    }
-}
-
-// A list of so many words, and the number that opening gives.
-fn open_questions(
-    tally: &mut Tally,
-    list: &mut [u32],
-    store: &mut [u32],
-    words: &mut [u32],
-    expected: u32,
-) {
-    steps_of_zero(list);
-    open_and_compare(tally, 1, list, store, words);
-    let number = store::open_number(store::open(1, list, store));
-    expect_number(tally, number, expected);
-}
-
-fn open_most(tally: &mut Tally, store: &mut [u32], words: &mut [u32]) {
-    let mut twenty = [0u32; 40];
-    open_questions(tally, &mut twenty, store, words, 0);
-    let mut more = [0u32; 42];
-    open_questions(tally, &mut more, store, words, 13);
+// A list, and the number that opening gives.
+fn open_questions(run: Run, list: &[u32], expected: u32) -> Run {
+    let mut store = [7u32; 50];
+    let opened = open_and_compare(run, 1, list, &mut store);
+    let found = sheet_open(1, list, &mut store);
+    expect_number(opened, found.number, expected)
 }
 
 // 20 questions, and 21.
-pub fn try_questions(tally: &mut Tally, words: &mut [u32]) {
-    let mut store = [7u32; 50];
-    open_most(tally, &mut store, words);
+pub fn try_questions(run: Run) -> Run {
+    let list = steps_list();
+    open_questions(open_questions(run, first_words(&list, 40), 0), &list, 13)
 }
 
-// The word at a place of a table whose rows are all of kind 1.
-fn always_word(place: usize) -> u32 {
-    if place % 4 == 0 {
-        return 1;
+// 257 rows of kind 1.
+fn all_always() -> [u32; 1028] {
+    let mut table = [0u32; 1028];
+    for r in 0..257usize {
+        table[4 * r] = 1;
     }
-    0
-}
-
-fn all_always(table: &mut [u32]) {
-    for i in 0..table.len() {
-        put(table, i, always_word(i));
-    }
-}
-
-fn build_rows(tally: &mut Tally, table: &mut [u32], store: &mut [u32], number: u32, result: u32) {
-    all_always(table);
-    build_expecting(tally, table, store, number, result);
-}
-
-fn build_expecting(tally: &mut Tally, table: &[u32], store: &mut [u32], number: u32, result: u32) {
-    let b = building::build(table, store);
-    expect_number(tally, building::built_number(b), number);
-    agree(tally, building::built_result(b) == result);
-}
-
-fn build_most(tally: &mut Tally, store: &mut [u32]) {
-    let mut table = [0u32; 1024];
-    build_rows(tally, &mut table, store, 0, 1);
-    let mut longer = [0u32; 1028];
-    build_rows(tally, &mut longer, store, 33, 0);
+    table
 }
 
 // 256 rows, and 257.
-pub fn try_rows(tally: &mut Tally) {
+pub fn try_rows(run: Run) -> Run {
+    let table = all_always();
     let mut store = [0u32; 3];
-    build_most(tally, &mut store);
-    agree(tally, store[0] == 0 && store[1] == 0 && store[2] == 0);
+    let most = sheet_build(&mut store, first_words(&table, 1024));
+    let more = sheet_build(&mut store, &table);
+    let built = expect_answer(expect_answer(run, most, accepted(1)), more, refused(33));
+    agree(built, same_words(&store, &[0, 0, 0]))
+}
+
+// The equation of two terms as a rule.
+fn build_equation(run: Run, store: &mut [u32], a: u32, b: u32, expected: Answer) -> Run {
+    expect_answer(run, sheet_build(store, &[2, a, b, 0]), expected)
 }
 
 // 1 = 0 takes the last entry, and again none.
-fn fill_last(tally: &mut Tally, store: &mut [u32]) {
-    agree(tally, is_sound(store));
-    build_expecting(tally, &[2, 1, 0, 0], store, 0, 4097);
-    agree(tally, used(store) == 4096);
-    build_expecting(tally, &[2, 1, 0, 0], store, 0, 4097);
+fn fill_last(run: Run, store: &mut [u32]) -> Run {
+    let first = build_equation(run, store, 1, 0, accepted(4097));
+    build_equation(first, store, 1, 0, accepted(4097))
 }
 
-fn negate_expecting(tally: &mut Tally, store: &mut [u32], handle: u32, number: u32, result: u32) {
-    let b = building::negate(handle, store);
-    expect_number(tally, building::built_number(b), number);
-    agree(tally, building::built_result(b) == result);
+// In the full store its negation and 1 = S(0) have no room; never needs none.
+fn add_to_full(run: Run, store: &mut [u32]) -> Run {
+    let next = build_equation(run, store, 1, 32, refused(51));
+    let not = expect_answer(next, sheet_negate(store, 4097), refused(51));
+    build_equation(not, store, 33, 0, accepted(0))
 }
 
-// In the full store its negation and 1 = S(0) have no room, and no word changes; never needs none.
-fn add_to_full(tally: &mut Tally, store: &mut [u32], words: &mut [u32]) {
-    copy(store, words);
-    build_expecting(tally, &[2, 1, 32, 0], store, 51, 0);
-    negate_expecting(tally, store, 4097, 51, 0);
-    build_expecting(tally, &[2, 33, 0, 0], store, 0, 0);
-    agree(tally, same_words(store, words));
+// 4,096 entries: only the last of them is added.
+fn try_full(run: Run, store: &mut [u32]) -> Run {
+    let sound = agree(run, is_sound(store));
+    let called = add_to_full(fill_last(sound, store), store);
+    let told = agree(called, used(store) == 4096);
+    agree(told, same_words(store, &filled(4096)))
 }
 
-// An entry more than 4,096 makes no sound store, however long it is.
-fn overfill(tally: &mut Tally, store: &mut [u32], words: &mut [u32]) {
-    put(store, 2, 4097);
-    write_entry(store, 4096, 1, 0, 1);
-    agree(tally, !is_sound(store));
-    refuse_all(tally, store, words);
+// An entry more makes no sound store, however long it is.
+pub fn try_entries(run: Run) -> Run {
+    let mut store = filled(4095);
+    let told = try_full(run, &mut store);
+    let over = filled(4097);
+    refuse_all(agree(told, !is_sound(&over)), &over)
 }
 
-fn fill_entries(tally: &mut Tally, store: &mut [u32], words: &mut [u32]) {
-    write_heading(store, 4095);
-    write_pairs(store, 4095);
-    fill_last(tally, store);
-    add_to_full(tally, store, words);
-    overfill(tally, store, words);
-}
-
-// 4,096 entries, and one more.
-pub fn try_entries(tally: &mut Tally) {
-    let mut store = [0u32; FULL_WORDS];
-    let mut words = [0u32; FULL_WORDS];
-    fill_entries(tally, &mut store, &mut words);
-}
-
-fn write_expecting(tally: &mut Tally, store: &[u32], handle: u32, rows: u32) {
-    let mut out = [7u32; 1024];
-    let found = compare_written(tally, store, handle, &mut out);
-    agree(tally, found == rows);
-}
-
-// A slice of one word less.
-fn write_short(tally: &mut Tally, store: &[u32], handle: u32) {
-    let mut out = [7u32; 1023];
-    let found = compare_written(tally, store, handle, &mut out);
-    agree(tally, found == 0);
-}
-
-fn write_most(tally: &mut Tally, store: &mut [u32]) {
-    write_heading(store, 128);
-    write_pairs(store, 71);
-    write_tree(store);
-    write_over(store, 127, 128, 0);
-    agree(tally, is_sound(store));
+// A handle written back into so many words, and the rows that are to come out.
+fn write_expecting(run: Run, store: &[u32], handle: u32, length: usize, rows: u32) -> Run
+    requires { ⌜ length ≤ 1024 ⌝ }
+{
+    let written = write_back(store, handle, length);
+    agree(
+        ask_written(run, store, handle, length),
+        written.rows == rows,
+    )
 }
 
 // 127 entries written back are 256 rows; 128 are too many.
-pub fn try_written(tally: &mut Tally) {
-    let mut store = [0u32; 430];
-    write_most(tally, &mut store);
-    write_expecting(tally, &store, 128, 256);
-    write_short(tally, &store, 128);
-    write_expecting(tally, &store, 129, 0);
+pub fn try_written(run: Run) -> Run {
+    let store = tree();
+    let sound = agree(run, is_sound(&store));
+    let most = write_expecting(sound, &store, 128, 1024, 256);
+    let short = write_expecting(most, &store, 128, 1023, 0);
+    write_expecting(short, &store, 129, 1024, 0)
 }

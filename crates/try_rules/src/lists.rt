@@ -1,145 +1,129 @@
 // Generated lists of questions, most of them good.
-use crate::chance::below;
-use crate::chance::once_in;
+ghost use Prim.Native.Nat.{_+_, _<_, _^_};
+use crate::chance::throw;
+use evaluator::field;
+use evaluator::is_question;
 
-// The most words of a generated list: 8 questions, and room for lists that are too long.
-pub const LIST_WORDS: usize = 44;
-
-pub type List = [u32; LIST_WORDS];
-
-// A list's number of fields, and how many of its words there are.
-pub struct Listed {
+// A list's number of fields, its words, and how many of them there are: up to eight questions, or too many. And the seed after it.
+pub struct List {
     pub n: u32,
+    pub words: [u32; 44],
     pub length: u32,
+    pub seed: u64,
 }
 
 // The c-th of all questions over three fields with gaps up to 3, in the order of questions: left field, right field, and the steps, 0 to 3 on
 // the right and then 1 to 3 on the left. Some are none, as their right field is not smaller, or they have steps to the left of zero.
-fn left_field(c: u32) -> u32 {
-    c / 21 % 3 + 1
+fn left_term(c: u32) -> u32 {
+    if c % 7 < 4 {
+        return c / 21 % 3 + 1;
+    }
+    c / 21 % 3 + 1 + (c % 7 - 3) * 32
 }
 
-fn right_field(c: u32) -> u32 {
+fn right_term(c: u32) -> u32 {
+    if c % 7 < 4 {
+        return c / 7 % 3 + c % 7 * 32;
+    }
     c / 7 % 3
 }
 
-fn left_steps(c: u32) -> u32 {
-    if c % 7 < 4 {
-        return 0;
-    }
-    c % 7 - 3
-}
-
-fn right_steps(c: u32) -> u32 {
-    if c % 7 < 4 {
-        return c % 7;
-    }
-    0
-}
-
 // Whether that is a question over n fields. Gaps of 3 are for up to two fields: n × (K + 1) is then at most nine.
-fn is_candidate(n: u32, c: u32) -> bool {
-    if left_field(c) > n || right_field(c) >= left_field(c) {
-        return false;
-    }
-    if right_field(c) == 0 && left_steps(c) > 0 {
-        return false;
-    }
-    n < 3 || (left_steps(c) < 3 && right_steps(c) < 3)
+fn is_candidate(n: u32, left: u32, right: u32) -> bool {
+    let wide = (n == 3) & (left / 32 + right / 32 == 3);
+    is_question(left, right) & (field(left) <= n) & !wide
 }
 
-// Puts one more question at the end of the list.
-fn put_question(list: &mut List, length: u32, c: u32) {
-    if length < 42 {
-        list[length as usize] = left_steps(c) % 4 * 32 + left_field(c) % 32;
-        list[length as usize + 1] = right_steps(c) % 4 * 32 + right_field(c) % 32;
+// Writes two words from a place on.
+fn put_pair(mut list: List, place: usize, left: u32, right: u32) -> List {
+    if place < 43 {
+        list.words[place] = left;
+        list.words[place + 1] = right;
     }
+    list
 }
 
-// Takes each question of n fields once in so many times, up to eight.
-fn throw_questions(seed: &mut [u64; 1], n: u32, times: u32, list: &mut List) -> u32 {
-    let mut length = 0u32;
+// Takes a question once in so many times, up to eight.
+fn throw_question(mut list: List, times: u32, left: u32, right: u32) -> List {
+    let thrown = throw(list.seed, times);
+    let length = list.length;
+    list.seed = thrown.seed;
+    if thrown.number > 0 {
+        return list;
+    }
+    list.length = length % 16 + 2;
+    put_pair(list, length as usize, left, right)
+}
+
+fn throw_candidate(list: List, times: u32, c: u32) -> List {
+    let left = left_term(c);
+    let right = right_term(c);
+    if (list.length < 16) & is_candidate(list.n, left, right) {
+        return throw_question(list, times, left, right);
+    }
+    list
+}
+
+pub fn throw_list(seed: u64) -> List {
+    let n = throw(seed, 7);
+    let times = throw(n.seed, 4);
+    let mut list = List {
+        n: n.number / 2,
+        words: [0; 44],
+        length: 0,
+        seed: times.seed,
+    };
     for c in 0..63u32 {
-        if length < 16 && is_candidate(n, c) && once_in(seed, times) {
-            put_question(list, length, c);
-            length = length % 16 + 2;
-        }
+        list = throw_candidate(list, times.number + 1, c);
     }
-    length
+    list
 }
 
-pub fn throw_list(seed: &mut [u64; 1], list: &mut List) -> Listed {
-    let n = below(seed, 7) / 2;
-    let times = below(seed, 4) % 4 + 1;
-    let length = throw_questions(seed, n, times, list);
-    Listed {
-        n: n,
-        length: length,
+// Writes a thrown word over one of the list.
+fn spoil_word(mut list: List, least: u32, bound: u32) -> List
+    requires { ⌜ least + bound < 2 ^ 32 ⌝ }
+{
+    let place = throw(list.seed, list.length);
+    let word = throw(place.seed, bound);
+    let at = place.number;
+    list.seed = word.seed;
+    if at < 44 {
+        list.words[at as usize] = least + word.number;
     }
+    list
 }
 
-// A place of the list, thrown; 0 where it is empty.
-fn throw_place(seed: &mut [u64; 1], length: u32) -> usize {
-    (below(seed, length) % 40) as usize
-}
-
-// A word that is no term of a small sheet: steps above 255, or a field above 3.
-fn far_word(seed: &mut [u64; 1]) -> u32 {
-    8192 + below(seed, 2048) % 2048
-}
-
-// Turns a question round.
-fn turn(list: &mut List, place: usize) {
-    let pair = place / 2 * 2;
-    if pair < 40 {
-        let left = list[pair];
-        list[pair] = list[pair + 1];
-        list[pair + 1] = left;
+// Turns a question round, or writes it over the next one.
+fn spoil_pair(mut list: List, round: bool) -> List {
+    let place = throw(list.seed, list.length);
+    let pair = 2 * ((place.number / 2) as usize);
+    list.seed = place.seed;
+    if pair > 40 {
+        return list;
     }
-}
-
-// Writes a question over the next one.
-fn repeat(list: &mut List, place: usize) {
-    let pair = place / 2 * 2;
-    if pair < 40 {
-        list[pair + 2] = list[pair];
-        list[pair + 3] = list[pair + 1];
+    let left = list.words[pair];
+    let right = list.words[pair + 1];
+    if round {
+        return put_pair(list, pair, right, left);
     }
-}
-
-fn spoil_word(seed: &mut [u64; 1], list: &mut List, length: u32, far: bool) {
-    let place = throw_place(seed, length);
-    if place < 40 {
-        if far {
-            list[place] = far_word(seed);
-        } else {
-            list[place] = below(seed, 128);
-        }
-    }
+    put_pair(list, pair + 2, left, right)
 }
 
 // Spoils a list in one of seven ways, or leaves it as it is.
-pub fn spoil(seed: &mut [u64; 1], given: Listed, list: &mut List) -> Listed {
-    let n = given.n;
-    let length = given.length;
-    match below(seed, 14) {
-        0 => return Listed {
-            n: 17,
-            length: length,
-        },
-        1 => return Listed {
-            n: n,
-            length: length % 40 + 1,
-        },
-        2 => return Listed { n: n, length: 42 },
-        3 => spoil_word(seed, list, length, true),
-        4 | 5 => spoil_word(seed, list, length, false),
-        6 => turn(list, throw_place(seed, length)),
-        7 => repeat(list, throw_place(seed, length)),
+pub fn spoil(mut list: List) -> List {
+    let thrown = throw(list.seed, 14);
+    let way = thrown.number;
+    list.seed = thrown.seed;
+    match way {
+        0 => list.n = 17,
+        1 => list.length = list.length % 40 + 1,
+        2 => list.length = 42,
+        // steps above 255
+        3 => return spoil_word(list, 8192, 2048),
+        4 | 5 => return spoil_word(list, 0, 128),
+        6 => return spoil_pair(list, true),
+        7 => return spoil_pair(list, false),
         _ => {}
     }
-    Listed {
-        n: n,
-        length: length,
-    }
+    list
 }

@@ -1,108 +1,82 @@
-// Generated stores, each with a list of generated calls.
+// Generated lists, and generated stores, each with some calls.
+ghost use Prim.Native.Nat.{_≤_};
 use crate::asking::ask_handles;
-use crate::calls::try_thrown;
-use crate::chance::below;
-use crate::drawing::Nodes;
-use crate::drawing::Truths;
+use crate::calls::try_calls;
+use crate::chance::Thrown;
+use crate::chance::throw;
 use crate::hostile::try_changed;
-use crate::ledger::Ledger;
 use crate::ledger::compare_pairs;
 use crate::ledger::first_handles;
 use crate::lists::List;
-use crate::lists::Listed;
+use crate::lists::spoil;
 use crate::lists::throw_list;
-use crate::opening::open_listed;
-use crate::opening::try_list;
-use crate::sound::is_sound;
-use crate::tally::Tally;
-use crate::tally::agree;
+use crate::opening::open_list;
+use crate::run::Run;
+use crate::run::agree;
 use crate::writing::write_handles;
-
-// The length of a store for a list: with room for some thirty entries, and every third time for more than there ever are.
-fn throw_length(seed: &mut [u64; 1], list_length: u32) -> usize {
-    let length = 3 + list_length % 64 + below(seed, 90) % 90;
-    if below(seed, 3) == 0 {
-        return (length + 350) as usize;
-    }
-    length as usize
-}
+use evaluator::is_sound;
 
 // A list, good or spoiled, and a store of any length.
-pub fn list_round(seed: &mut [u64; 1], tally: &mut Tally, store: &mut [u32], words: &mut [u32]) {
-    let end = below(seed, 60) as usize;
-    if end <= store.len() {
-        try_list(seed, tally, &mut store[0..end], words);
-    }
+fn list_round(mut run: Run) -> Run {
+    let mut store = [7u32; 64];
+    let length = throw(run.seed, 60);
+    let end = length.number as usize;
+    let list = spoil(throw_list(length.seed));
+    run.seed = list.seed;
+    open_list(run, list, &mut store[0..end])
 }
 
-fn try_calls(
-    seed: &mut [u64; 1],
-    tally: &mut Tally,
-    store: &mut [u32],
-    truths: &mut Truths,
-    nodes: &mut Nodes,
-    words: &mut [u32],
-    ledger: &mut Ledger,
-) {
-    for i in 0..12u32 {
-        try_thrown(seed, tally, store, truths, nodes, words, ledger);
+pub fn list_rounds(mut run: Run) -> Run {
+    for i in 0..2000u32 {
+        run = list_round(run);
     }
+    run
 }
 
-// The calls on a store that has just been opened.
-fn try_opened(
-    seed: &mut [u64; 1],
-    tally: &mut Tally,
-    store: &mut [u32],
-    words: &mut [u32],
-    ledger: &mut Ledger,
-) {
-    let mut nodes = [0u32; 1040];
-    let mut truths = [false; 1024];
-    first_handles(ledger);
-    try_calls(seed, tally, store, &mut truths, &mut nodes, words, ledger);
+// The length of a store for a list: with room for some thirty entries, and every third time for more than there ever are.
+fn throw_length(list: List) -> Thrown
+    ensures { λ r. ⌜ r .number ≤ 512 ⌝ }
+{
+    let more = throw(list.seed, 90);
+    let roomy = throw(more.seed, 3);
+    let mut length = 3 + list.length % 64 + more.number;
+    if roomy.number == 0 {
+        length = length + 350;
+    }
+    Thrown {
+        number: length,
+        seed: roomy.seed,
+    }
 }
 
 // What is asked of a store after its calls, and once more when a word is changed.
-fn ask_store(
-    seed: &mut [u64; 1],
-    tally: &mut Tally,
-    store: &mut [u32],
-    words: &mut [u32],
-    ledger: &Ledger,
-) {
-    compare_pairs(tally, store, ledger);
-    agree(tally, is_sound(store));
-    ask_handles(seed, tally, store);
-    write_handles(seed, tally, ledger, store, words);
-    try_changed(seed, tally, store, words);
+fn ask_store(run: Run, store: &[u32]) -> Run {
+    let sound = agree(compare_pairs(run, store), is_sound(store));
+    let asked = ask_handles(sound, store);
+    try_changed(write_handles(asked, store), store)
 }
 
-fn try_store(seed: &mut [u64; 1], tally: &mut Tally, store: &mut [u32], words: &mut [u32]) {
-    let mut ledger = [0u32; 32];
-    try_opened(seed, tally, store, words, &mut ledger);
-    ask_store(seed, tally, store, words, &ledger);
-}
-
-// A store of so many words with a list.
-fn listed_store(
-    seed: &mut [u64; 1],
-    tally: &mut Tally,
-    given: Listed,
-    list: &List,
-    store: &mut [u32],
-    words: &mut [u32],
-) {
-    open_listed(tally, given, list, store, words);
-    try_store(seed, tally, store, words);
+// The calls on a store with a list.
+fn try_store(run: Run, list: List, store: &mut [u32]) -> Run {
+    let mut opened = open_list(run, list, store);
+    opened.ledger = first_handles();
+    let called = try_calls(opened, store);
+    ask_store(called, store)
 }
 
 // One generated store with its list.
-pub fn store_round(seed: &mut [u64; 1], tally: &mut Tally, store: &mut [u32], words: &mut [u32]) {
-    let mut list = [0u32; 44];
-    let given = throw_list(seed, &mut list);
-    let end = throw_length(seed, given.length);
-    if end <= store.len() {
-        listed_store(seed, tally, given, &list, &mut store[0..end], words);
+fn store_round(mut run: Run) -> Run {
+    let mut store = [7u32; 512];
+    let list = throw_list(run.seed);
+    let length = throw_length(list);
+    let end = length.number as usize;
+    run.seed = length.seed;
+    try_store(run, list, &mut store[0..end])
+}
+
+pub fn store_rounds(mut run: Run) -> Run {
+    for i in 0..300u32 {
+        run = store_round(run);
     }
+    run
 }

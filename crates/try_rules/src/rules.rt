@@ -1,167 +1,179 @@
 // Generated rule tables over a store's list, most of them good.
-use crate::chance::below;
-use crate::chance::once_in;
-use crate::layout::left_of;
-use crate::layout::questions;
-use crate::layout::right_of;
+use crate::chance::throw;
+use evaluator::left_of;
+use evaluator::questions;
+use evaluator::right_of;
 
-// Up to sixteen rows.
-pub const TABLE_WORDS: usize = 64;
+// A table of up to sixteen rows, how many of its words there are, and the seed after it.
+pub struct Table {
+    pub words: [u32; 64],
+    pub length: u32,
+    pub seed: u64,
+}
 
-pub type Table = [u32; TABLE_WORDS];
-
-// A row: kind, a, b, c.
+// A row, and the seed after it.
 struct Row {
     kind: u32,
     a: u32,
     b: u32,
     c: u32,
+    seed: u64,
 }
 
-fn put_row(table: &mut Table, r: u32, row: Row) {
-    if r < 16 {
-        let place = 4 * (r as usize);
-        table[place] = row.kind;
-        table[place + 1] = row.a;
-        table[place + 2] = row.b;
-        table[place + 3] = row.c;
+fn put_row(mut table: Table, r: u32, row: Row) -> Table {
+    let place = 4 * (r as usize);
+    table.seed = row.seed;
+    if place < 61 {
+        table.words[place] = row.kind;
+        table.words[place + 1] = row.a;
+        table.words[place + 2] = row.b;
+        table.words[place + 3] = row.c;
     }
+    table
 }
 
-// More steps on a term.
-fn raised(term: u32, more: u32) -> u32 {
-    term % 8192 + more % 8 * 32
+fn equation(left: u32, right: u32, seed: u64) -> Row {
+    Row {
+        kind: 2,
+        a: left,
+        b: right,
+        c: 0,
+        seed: seed,
+    }
 }
 
 // A question of the list as an equation: with some steps more on both sides, and perhaps turned round.
-fn throw_listed(seed: &mut [u64; 1], store: &[u32]) -> Row {
-    let k = below(seed, questions(store)) % 20 + 1;
-    let more = below(seed, 3);
-    let left = raised(left_of(store, k), more);
-    let right = raised(right_of(store, k), more);
-    if once_in(seed, 2) {
-        return Row {
-            kind: 2,
-            a: right,
-            b: left,
-            c: 0,
-        };
+fn throw_listed(seed: u64, store: &[u32]) -> Row {
+    let k = throw(seed, questions(store));
+    let more = throw(k.seed, 3);
+    let round = throw(more.seed, 2);
+    let left = left_of(store, k.number % 20 + 1) % 8192 + more.number * 32;
+    let right = right_of(store, k.number % 20 + 1) % 8192 + more.number * 32;
+    if round.number == 0 {
+        return equation(right, left, round.seed);
     }
-    Row {
-        kind: 2,
-        a: left,
-        b: right,
-        c: 0,
-    }
+    equation(left, right, round.seed)
 }
 
-// A term of a field up to 4 and up to 2 steps.
-fn throw_term(seed: &mut [u64; 1]) -> u32 {
-    below(seed, 5) % 5 + below(seed, 3) % 3 * 32
-}
-
-// An equation that may be on the list or not, with a field that may be too large.
-fn throw_equation(seed: &mut [u64; 1]) -> Row {
-    let left = throw_term(seed);
-    let right = throw_term(seed);
-    Row {
-        kind: 2,
-        a: left,
-        b: right,
-        c: 0,
-    }
+// An equation that may be on the list or not: terms of a field up to 4, which may be too large, and up to 2 steps.
+fn throw_equation(seed: u64) -> Row {
+    let field = throw(seed, 5);
+    let steps = throw(field.seed, 3);
+    let other = throw(steps.seed, 5);
+    let more = throw(other.seed, 3);
+    equation(
+        field.number + steps.number * 32,
+        other.number + more.number * 32,
+        more.seed,
+    )
 }
 
 // A row of a kind that may be unknown, with small columns.
-fn throw_junk(seed: &mut [u64; 1]) -> Row {
-    let kind = below(seed, 8);
-    let a = below(seed, 4);
-    let b = below(seed, 4);
-    let c = below(seed, 3);
+fn throw_junk(seed: u64) -> Row {
+    let kind = throw(seed, 8);
+    let a = throw(kind.seed, 4);
+    let b = throw(a.seed, 4);
+    let c = throw(b.seed, 3);
     Row {
-        kind: kind,
-        a: a,
-        b: b,
-        c: c,
+        kind: kind.number,
+        a: a.number,
+        b: b.number,
+        c: c.number,
+        seed: c.seed,
     }
 }
 
 // Not, and, or if-then-else of lower rows.
-fn throw_combined(seed: &mut [u64; 1], r: u32) -> Row {
-    let kind = below(seed, 3) % 3 + 3;
-    let a = below(seed, r);
-    let b = below(seed, r);
-    let c = below(seed, r);
-    match kind {
-        3 => Row {
-            kind: 3,
-            a: a,
-            b: 0,
-            c: 0,
-        },
-        4 => Row {
-            kind: 4,
-            a: a,
-            b: b,
-            c: 0,
-        },
-        _ => Row {
-            kind: 5,
-            a: a,
-            b: b,
-            c: c,
-        },
+fn throw_combined(seed: u64, r: u32) -> Row {
+    let kind = throw(seed, 3);
+    let a = throw(kind.seed, r);
+    let b = throw(a.seed, r);
+    let c = throw(b.seed, r);
+    let mut row = Row {
+        kind: 3 + kind.number,
+        a: a.number,
+        b: 0,
+        c: 0,
+        seed: c.seed,
+    };
+    if kind.number > 0 {
+        row.b = b.number;
     }
+    if kind.number > 1 {
+        row.c = c.number;
+    }
+    row
 }
 
-fn throw_leaf(seed: &mut [u64; 1]) -> Row {
-    let kind = below(seed, 2);
+fn throw_leaf(seed: u64) -> Row {
+    let kind = throw(seed, 2);
     Row {
-        kind: kind,
+        kind: kind.number,
         a: 0,
         b: 0,
         c: 0,
+        seed: kind.seed,
     }
 }
 
-fn throw_good(seed: &mut [u64; 1], store: &[u32], r: u32) -> Row {
-    if r > 0 && below(seed, 5) > 1 {
-        return throw_combined(seed, r);
-    }
-    if questions(store) == 0 || once_in(seed, 12) {
+// A row that refers to no other.
+fn throw_first(seed: u64, store: &[u32]) -> Row {
+    if questions(store) == 0 {
         return throw_leaf(seed);
     }
-    throw_listed(seed, store)
+    let listed = throw(seed, 12);
+    if listed.number == 0 {
+        return throw_leaf(listed.seed);
+    }
+    throw_listed(listed.seed, store)
 }
 
-fn throw_row(seed: &mut [u64; 1], store: &[u32], r: u32) -> Row {
-    match below(seed, 80) {
-        0 => throw_junk(seed),
-        1 | 2 => throw_equation(seed),
-        3 => Row {
-            kind: 2,
-            a: 8193,
-            b: 1,
-            c: 0,
-        },
-        _ => throw_good(seed, store, r),
+fn throw_good(seed: u64, store: &[u32], r: u32) -> Row {
+    if r == 0 {
+        return throw_first(seed, store);
+    }
+    let combined = throw(seed, 5);
+    if combined.number > 1 {
+        return throw_combined(combined.seed, r);
+    }
+    throw_first(combined.seed, store)
+}
+
+fn throw_row(seed: u64, store: &[u32], r: u32) -> Row {
+    let good = throw(seed, 80);
+    let way = good.number;
+    match way {
+        0 => throw_junk(good.seed),
+        1 | 2 => throw_equation(good.seed),
+        3 => equation(8193, 1, good.seed),
+        _ => throw_good(good.seed, store, r),
     }
 }
 
-fn throw_rows(seed: &mut [u64; 1], store: &[u32], rows: u32, table: &mut Table) {
+fn throw_rows(seed: u64, store: &[u32], rows: u32) -> Table {
+    let mut table = Table {
+        words: [0; 64],
+        length: 0,
+        seed: seed,
+    };
     for r in 0..rows {
-        put_row(table, r, throw_row(seed, store, r));
+        table = put_row(table, r, throw_row(table.seed, store, r));
     }
+    table
 }
 
-// Writes a table, and gives the number of its words; now and then none, or not a multiple of four.
-pub fn throw_table(seed: &mut [u64; 1], store: &[u32], table: &mut Table) -> u32 {
-    let rows = below(seed, 14) % 14 + 1;
-    throw_rows(seed, store, rows, table);
-    match below(seed, 60) {
+// A table; now and then of no words, or of a number that is no multiple of four.
+pub fn throw_table(seed: u64, store: &[u32]) -> Table {
+    let rows = throw(seed, 14);
+    let mut table = throw_rows(rows.seed, store, rows.number + 1);
+    let cut = throw(table.seed, 60);
+    let way = cut.number;
+    table.seed = cut.seed;
+    table.length = match way {
         0 => 0,
-        1 => 4 * rows + 1,
-        2 => 4 * rows - 1,
-        _ => 4 * rows,
-    }
+        1 => 4 * rows.number + 5,
+        2 => 4 * rows.number + 3,
+        _ => 4 * rows.number + 4,
+    };
+    table
 }

@@ -1,34 +1,62 @@
 // Simplify, against the evaluator: its refusal, the form of its question, and its truth at sheets.
 ghost use Prim.Native.Nat.{_<_, _^_};
-use crate::chance::below;
-use crate::evaluator::holds;
-use crate::faults::bad_term;
-use crate::faults::is_question;
-use crate::layout::steps;
-use crate::tally::Tally;
-use crate::tally::agree;
-use crate::tally::expect_number;
-use terms::Answer;
+use crate::chance::Thrown;
+use crate::chance::throw;
+use crate::run::Run;
+use crate::run::agree;
+use crate::run::expect_number;
+use evaluator::bad_term;
+use evaluator::holds;
+use evaluator::is_question;
+use evaluator::steps;
+use sheet::sheet_simplify;
+use terms::SimplifyAnswer;
 
-// A sheet of small counts in all sixteen fields.
-fn throw_sheet(seed: &mut [u64; 1], sheet: &mut [u16; 16]) {
+// A sheet of small counts in all sixteen fields, and the seed after it.
+struct Sheet {
+    counts: [u16; 16],
+    seed: u64,
+}
+
+fn throw_sheet(seed: u64) -> Sheet {
+    let mut sheet = Sheet {
+        counts: [0; 16],
+        seed: seed,
+    };
     for i in 0..16usize {
-        sheet[i] = (below(seed, 5) % 5) as u16;
+        let thrown = throw(sheet.seed, 5);
+        sheet.counts[i] = thrown.number as u16;
+        sheet.seed = thrown.seed;
+    }
+    sheet
+}
+
+// A term of few fields, so that equations of one field and of zero come often.
+fn throw_low_term(seed: u64) -> Thrown {
+    let field = throw(seed, 3);
+    let steps = throw(field.seed, 3);
+    Thrown {
+        number: field.number + steps.number * 32,
+        seed: steps.seed,
     }
 }
 
-// A field up to 17 and a few steps, or some near the limit.
-fn throw_term(seed: &mut [u64; 1]) -> u32 {
-    let field = below(seed, 18) % 18;
-    match below(seed, 4) {
-        0 => field + (250 + below(seed, 7) % 7) * 32,
-        _ => field + below(seed, 4) % 4 * 32,
+// A term of a field up to 17 and a few steps, or some near the limit.
+fn throw_term(seed: u64) -> Thrown {
+    let field = throw(seed, 18);
+    let far = throw(field.seed, 4);
+    if far.number == 0 {
+        let more = throw(far.seed, 7);
+        return Thrown {
+            number: field.number + (250 + more.number) * 32,
+            seed: more.seed,
+        };
     }
-}
-
-// Few fields, so that equations of one field and of zero come often.
-fn throw_low_term(seed: &mut [u64; 1]) -> u32 {
-    below(seed, 3) % 3 + below(seed, 3) % 3 * 32
+    let steps = throw(far.seed, 4);
+    Thrown {
+        number: field.number + steps.number * 32,
+        seed: steps.seed,
+    }
 }
 
 fn difference(a: u32, b: u32) -> i32
@@ -39,60 +67,65 @@ fn difference(a: u32, b: u32) -> i32
 
 // Right steps minus left steps.
 fn is_gap(gap: i32, left: u32, right: u32) -> bool {
-    gap == difference(steps(right) % 256, steps(left) % 256)
-}
-
-fn is_plain(a: Answer) -> bool {
-    a.left == 0 && a.right == 0 && a.gap == 0
+    gap == difference(right / 32, left / 32)
 }
 
 // The form of the answer: words and gap beside a question, and zeros beside all else.
-fn is_formed(a: Answer) -> bool {
-    if a.number == 0 && a.result == 2 {
-        return is_question(a.left, a.right) && is_gap(a.gap, a.left, a.right);
+fn is_formed(a: SimplifyAnswer) -> bool {
+    if (a.number == 0) & (a.result == 2) {
+        return is_question(a.left, a.right) & is_gap(a.gap, a.left, a.right);
     }
-    is_plain(a) && (a.result == 0 || (a.result == 1 && a.number == 0))
+    let plain = (a.left == 0) & (a.right == 0) & (a.gap == 0);
+    plain & ((a.result == 0) | ((a.result == 1) & (a.number == 0)))
 }
 
-fn answer_truth(a: Answer, sheet: &[u16; 16]) -> bool {
-    a.result == 1 || (a.result == 2 && holds(sheet, a.left, a.right))
+// Whether an equation and what it was simplified to are alike at a sheet.
+fn same_truth(left: u32, right: u32, a: SimplifyAnswer, sheet: &[u16; 16]) -> bool {
+    let truth = (a.result == 1) | ((a.result == 2) & holds(sheet, a.left, a.right));
+    holds(sheet, left, right) == truth
 }
 
-fn compare_sheet(tally: &mut Tally, left: u32, right: u32, a: Answer, sheet: &[u16; 16]) {
-    agree(tally, holds(sheet, left, right) == answer_truth(a, sheet));
+// Compares at one thrown sheet.
+fn compare_sheet(mut run: Run, left: u32, right: u32, a: SimplifyAnswer) -> Run {
+    let sheet = throw_sheet(run.seed);
+    let counts = sheet.counts;
+    run.seed = sheet.seed;
+    agree(run, same_truth(left, right, a, &counts))
 }
 
-fn compare_sheets(seed: &mut [u64; 1], tally: &mut Tally, left: u32, right: u32, a: Answer) {
-    let mut sheet = [0u16; 16];
+fn compare_sheets(mut run: Run, left: u32, right: u32, a: SimplifyAnswer) -> Run {
     for i in 0..12u32 {
-        throw_sheet(seed, &mut sheet);
-        compare_sheet(tally, left, right, a, &sheet);
+        run = compare_sheet(run, left, right, a);
     }
+    run
 }
 
-fn compare_equation(seed: &mut [u64; 1], tally: &mut Tally, left: u32, right: u32) {
-    let a = terms::answer_of(terms::simplify(left, right));
-    let refused = bad_term(16, left) || bad_term(16, right);
-    agree(tally, is_formed(a));
-    if refused {
-        expect_number(tally, a.number, 35);
-        return;
+fn compare_equation(run: Run, left: u32, right: u32) -> Run {
+    let a = sheet_simplify(left, right);
+    let formed = agree(run, is_formed(a));
+    if bad_term(16, left) | bad_term(16, right) {
+        return expect_number(formed, a.number, 35);
     }
-    expect_number(tally, a.number, 0);
-    compare_sheets(seed, tally, left, right, a);
+    compare_sheets(expect_number(formed, a.number, 0), left, right, a)
 }
 
-fn try_equation(seed: &mut [u64; 1], tally: &mut Tally) {
-    let left = throw_term(seed);
-    let right = throw_term(seed);
-    compare_equation(seed, tally, left, right);
-    let low = throw_low_term(seed);
-    let other = throw_low_term(seed);
-    compare_equation(seed, tally, low, other);
+fn try_thrown(mut run: Run) -> Run {
+    let left = throw_term(run.seed);
+    let right = throw_term(left.seed);
+    run.seed = right.seed;
+    compare_equation(run, left.number, right.number)
 }
 
-pub fn try_equations(seed: &mut [u64; 1], tally: &mut Tally) {
+fn try_low(mut run: Run) -> Run {
+    let left = throw_low_term(run.seed);
+    let right = throw_low_term(left.seed);
+    run.seed = right.seed;
+    compare_equation(run, left.number, right.number)
+}
+
+pub fn try_equations(mut run: Run) -> Run {
     for i in 0..1000u32 {
-        try_equation(seed, tally);
+        run = try_low(try_thrown(run));
     }
+    run
 }

@@ -1,168 +1,145 @@
 // Write back, against the evaluator, and built again.
-use crate::chance::below;
-use crate::evaluator::handle_truth;
-use crate::evaluator::rule_truth;
-use crate::faults::has_handle;
-use crate::faults::table_fault;
-use crate::grid::sheet_of;
-use crate::grid::sheets_of;
-use crate::layout::fields;
-use crate::ledger::Ledger;
+ghost use Prim.Native.Nat.{_≤_};
+use crate::chance::throw;
 use crate::ledger::handle_at;
-use crate::reaching::rows_of;
-use crate::tally::Tally;
-use crate::tally::agree;
-use crate::tally::expect_number;
-use crate::words::copy;
-use crate::words::same_words;
-use crate::words::word_at;
+use crate::run::Run;
+use crate::run::agree;
+use crate::run::count;
+use crate::run::expect_answer;
+use crate::run::expect_number;
+use evaluator::accepted;
+use evaluator::call_of;
+use evaluator::copy;
+use evaluator::differences;
+use evaluator::expect_written;
+use evaluator::fields;
+use evaluator::first_words;
+use evaluator::same_words;
+use evaluator::sheets_of;
+use evaluator::table_fault;
+use sheet::sheet_build;
+use sheet::sheet_write_back;
 
-// The refusal of a slice to write into, or 0.
-pub fn written_fault(store: &[u32], handle: u32, length: usize) -> u32 {
-    if !has_handle(store, handle) {
-        return 41;
+// What was written back into words that were all 7, and the answer.
+pub struct Written {
+    pub number: u32,
+    pub rows: u32,
+    pub words: [u32; 1024],
+}
+
+pub fn write_back(store: &[u32], handle: u32, length: usize) -> Written
+    requires { ⌜ length ≤ 1024 ⌝ }
+{
+    let mut words = [7u32; 1024];
+    let found = sheet_write_back(store, handle, &mut words[0..length]);
+    Written {
+        number: found.number,
+        rows: found.result,
+        words: words,
     }
-    let rows = rows_of(store, handle);
-    if rows > 256 {
-        return 53;
-    }
-    if length < 4 * (rows as usize) {
-        return 23;
-    }
-    0
 }
 
 // Whether all words from a place on are still 7.
-fn rest_left(words: &[u32], place: usize) -> bool {
-    for i in 0..words.len() {
-        if i >= place && word_at(words, i) != 7 {
+fn rest_left(words: &[u32; 1024], place: usize) -> bool {
+    if place > 1024 {
+        return true;
+    }
+    for i in place..1024usize {
+        if words[i] != 7 {
             return false;
         }
     }
     true
 }
 
-fn compare_sheet(
-    tally: &mut Tally,
-    store: &[u32],
-    handle: u32,
-    table: &[u32],
-    rows: u32,
-    number: u32,
-) {
-    let sheet = sheet_of(fields(store), number);
-    agree(
-        tally,
-        rule_truth(table, rows, &sheet) == handle_truth(store, handle, &sheet),
-    );
-}
-
 // The rows written back mean what the handle means.
-fn compare_rows(tally: &mut Tally, store: &[u32], handle: u32, table: &[u32], rows: u32) {
-    for number in 0..sheets_of(fields(store)) {
-        compare_sheet(tally, store, handle, table, rows, number);
-    }
+fn compare_rows(run: Run, store: &[u32], handle: u32, table: &[u32]) -> Run {
+    let differ = differences(call_of(2, 0, 0, 0), table, store, handle);
+    count(run, sheets_of(fields(store)), differ)
 }
 
-// Writes back into words that are all 7; gives the number of rows, or 0.
-pub fn compare_written(tally: &mut Tally, store: &[u32], handle: u32, out: &mut [u32]) -> u32 {
-    let fault = written_fault(store, handle, out.len());
-    let w = tables::write_back(store, handle, out);
-    let rows = tables::written_result(w);
-    expect_number(tally, tables::written_number(w), fault);
-    if fault != 0 {
-        agree(tally, rows == 0 && rest_left(out, 0));
-        return 0;
-    }
-    agree(tally, rows == rows_of(store, handle));
-    agree(tally, rest_left(out, 4 * (rows as usize)));
-    compare_rows(tally, store, handle, out, rows % 257);
-    rows
+fn compare_rule(run: Run, store: &[u32], handle: u32, written: Written) -> Run {
+    let words = written.words;
+    let end = 4 * (written.rows as usize);
+    let kept = agree(run, rest_left(&words, end));
+    compare_rows(kept, store, handle, first_words(&words, end))
 }
 
-// Builds a written rule again: the handle is the same, and no word changes.
-fn build_again(
-    tally: &mut Tally,
-    handle: u32,
-    table: &[u32],
-    store: &mut [u32],
-    words: &mut [u32],
-) {
-    copy(store, words);
-    agree(tally, table_fault(store, table) == 0);
-    let b = building::build(table, store);
-    agree(tally, building::built_number(b) == 0);
-    agree(tally, building::built_result(b) == handle);
-    agree(tally, same_words(store, words));
+// What was written into so many words.
+fn compare_written(run: Run, store: &[u32], handle: u32, length: usize, written: Written) -> Run {
+    let expected = expect_written(store, handle, length);
+    let numbered = expect_number(run, written.number, expected.number);
+    if expected.number != 0 {
+        let words = written.words;
+        return agree(numbered, written.rows == 0 && rest_left(&words, 0));
+    }
+    let counted = agree(numbered, written.rows == expected.result);
+    compare_rule(counted, store, handle, written)
+}
+
+// Writes back into so many words, and compares.
+pub fn ask_written(run: Run, store: &[u32], handle: u32, length: usize) -> Run
+    requires { ⌜ length ≤ 1024 ⌝ }
+{
+    compare_written(
+        run,
+        store,
+        handle,
+        length,
+        write_back(store, handle, length),
+    )
+}
+
+fn build_copy(run: Run, store: &[u32], handle: u32, table: &[u32], words: &mut [u32]) -> Run {
+    let found = sheet_build(words, table);
+    agree(
+        expect_answer(run, found, accepted(handle)),
+        same_words(store, words),
+    )
+}
+
+// Builds a written rule again, on a copy of the store: the handle is the same, and no word changes.
+fn build_again(run: Run, store: &[u32], handle: u32, table: &[u32]) -> Run {
+    let mut words = [0u32; 512];
+    let end = store.len();
+    let checked = agree(run, table_fault(store, table) == 0);
+    copy(store, &mut words);
+    if end > 512 {
+        return checked;
+    }
+    build_copy(checked, store, handle, table, &mut words[0..end])
 }
 
 // Writes a handle back that a call returned, and builds it again.
-fn write_and_build(
-    tally: &mut Tally,
-    handle: u32,
-    out: &mut [u32],
-    store: &mut [u32],
-    words: &mut [u32],
-) {
-    let rows = compare_written(tally, store, handle, out);
-    let end = 4 * (rows as usize);
-    if rows > 0 {
-        if end <= out.len() {
-            build_again(tally, handle, &out[0..end], store, words);
-        }
+fn write_thrown(mut run: Run, store: &[u32], handle: u32) -> Run {
+    let thrown = throw(run.seed, 1500);
+    let length = within(thrown.number as usize);
+    run.seed = thrown.seed;
+    let written = write_back(store, handle, length);
+    let compared = compare_written(run, store, handle, length, written);
+    let words = written.words;
+    let end = 4 * (written.rows as usize);
+    if end == 0 {
+        return compared;
     }
+    build_again(compared, store, handle, first_words(&words, end))
 }
 
-// Into so many words, or all there are.
-fn write_within(
-    tally: &mut Tally,
-    handle: u32,
-    end: usize,
-    out: &mut [u32],
-    store: &mut [u32],
-    words: &mut [u32],
-) {
-    if end <= out.len() {
-        write_and_build(tally, handle, &mut out[0..end], store, words);
-    } else {
-        write_and_build(tally, handle, out, store, words);
+// So many words, or all there are.
+fn within(length: usize) -> usize
+    ensures { λ r. ⌜ r ≤ 1024 ⌝ }
+{
+    if length > 1024 {
+        return 1024;
     }
-}
-
-fn write_part(
-    seed: &mut [u64; 1],
-    tally: &mut Tally,
-    handle: u32,
-    store: &mut [u32],
-    words: &mut [u32],
-) {
-    let mut out = [7u32; 1024];
-    let end = (below(seed, 1500) % 1500) as usize;
-    write_within(tally, handle, end, &mut out, store, words);
-}
-
-fn write_nth(
-    seed: &mut [u64; 1],
-    tally: &mut Tally,
-    ledger: &Ledger,
-    i: u32,
-    store: &mut [u32],
-    words: &mut [u32],
-) {
-    if i <= ledger[0] {
-        write_part(seed, tally, handle_at(ledger, i), store, words);
-    }
+    length
 }
 
 // Each handle of the ledger, into a slice of any length.
-pub fn write_handles(
-    seed: &mut [u64; 1],
-    tally: &mut Tally,
-    ledger: &Ledger,
-    store: &mut [u32],
-    words: &mut [u32],
-) {
-    for i in 0..31u32 {
-        write_nth(seed, tally, ledger, i + 1, store, words);
+pub fn write_handles(mut run: Run, store: &[u32]) -> Run {
+    let ledger = run.ledger;
+    for i in 0..ledger.count {
+        run = write_thrown(run, store, handle_at(ledger, i));
     }
+    run
 }

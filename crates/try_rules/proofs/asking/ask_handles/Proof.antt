@@ -5,19 +5,16 @@ use Rattle.try_rules.proofs.asking.ask_handles.Statement.{statement}
 use Rattle.try_rules.proofs.asking.ask_handles.Tie as tie
 
 abbrev Inv-loop : tie.InvT-loop
-Inv-loop seed₀ tally₀ store i₀ seed tally i = i ≤ 8
+Inv-loop run₀ store i₀ run i = i ≤ 8
 
 abbrev μ-loop : tie.MeasureT-loop
-μ-loop seed₀ tally₀ store i₀ seed tally i = 8 - i
+μ-loop run₀ store i₀ run i = 8 - i
 
 loop-holds : tie.Need-loop-holds Inv-loop μ-loop
 loop-holds c = search needs
 
-throw-handle-requires : tie.Need-throw-handle-requires Inv-loop μ-loop
-throw-handle-requires c κs = search needs
-
-ask-handle-requires : tie.Need-ask-handle-requires Inv-loop μ-loop
-ask-handle-requires c κs = search needs
+ask-thrown-requires : tie.Need-ask-thrown-requires Inv-loop μ-loop
+ask-thrown-requires c κs = search needs
 
 add-i : tie.Need-add-i Inv-loop μ-loop
 add-i c = search needs
@@ -34,13 +31,4 @@ returns c = search needs
 pub ask-handles-spec : {M : Type 1} → statement M
 ask-handles-spec =
     tie.close
-    (tie.spec
-    Inv-loop
-    μ-loop
-    loop-holds
-    throw-handle-requires
-    ask-handle-requires
-    add-i
-    loop-less
-    loop-again
-    returns)
+    (tie.spec Inv-loop μ-loop loop-holds ask-thrown-requires add-i loop-less loop-again returns)

@@ -1,22 +1,35 @@
 -- `try_all_broken` is safe and ends: the loop's place stays within its bound.
 use Prim.Native.Nat.{_-_, _≤_}
-use mathlib.Core.Path.{_≡_}
 use borrow.Author.Needs.{needs}
-use lib.ListN.{length}
 use Rattle.try_rules.proofs.hostile.try_all_broken.Statement.{statement}
 use Rattle.try_rules.proofs.hostile.try_all_broken.Tie as tie
 
 abbrev Inv-loop : tie.InvT-loop
-Inv-loop tally₀ words₀ way₀ tally words way = (way ≤ 23) × (length words ≡ length words₀)
+Inv-loop run₀ way₀ run way = way ≤ 23
 
 abbrev μ-loop : tie.MeasureT-loop
-μ-loop tally₀ words₀ way₀ tally words way = 23 - way
+μ-loop run₀ way₀ run way = 23 - way
 
 loop-holds : tie.Need-loop-holds Inv-loop μ-loop
 loop-holds c = search needs
 
-try-broken-requires : tie.Need-try-broken-requires Inv-loop μ-loop
-try-broken-requires c κs = search needs
+broken-requires : tie.Need-broken-requires Inv-loop μ-loop
+broken-requires c κs = search needs
+
+slice-aggregate-is-sound : tie.Need-slice-aggregate-is-sound Inv-loop μ-loop
+slice-aggregate-is-sound c = search needs
+
+is-sound-requires : tie.Need-is-sound-requires Inv-loop μ-loop
+is-sound-requires c κs = search needs
+
+agree-requires : tie.Need-agree-requires Inv-loop μ-loop
+agree-requires c κs = search needs
+
+slice-aggregate-refuse-all : tie.Need-slice-aggregate-refuse-all Inv-loop μ-loop
+slice-aggregate-refuse-all c = search needs
+
+refuse-all-requires : tie.Need-refuse-all-requires Inv-loop μ-loop
+refuse-all-requires c κs = search needs
 
 add-way : tie.Need-add-way Inv-loop μ-loop
 add-way c = search needs
@@ -26,9 +39,6 @@ loop-less c = search needs
 
 loop-again : tie.Need-loop-again Inv-loop μ-loop
 loop-again c = search needs
-
-same-length : tie.Need-same-length Inv-loop μ-loop
-same-length c = search needs
 
 returns : tie.Need-returns Inv-loop μ-loop
 returns c = search needs
@@ -40,9 +50,13 @@ try-all-broken-spec =
     Inv-loop
     μ-loop
     loop-holds
-    try-broken-requires
+    broken-requires
+    slice-aggregate-is-sound
+    is-sound-requires
+    agree-requires
+    slice-aggregate-refuse-all
+    refuse-all-requires
     add-way
     loop-less
     loop-again
-    same-length
     returns)

@@ -1,22 +1,26 @@
 -- `try_all_cut` is safe and ends: the loop's place stays within its bound.
 use Prim.Native.Nat.{_-_, _≤_}
-use mathlib.Core.Path.{_≡_}
 use borrow.Author.Needs.{needs}
-use lib.ListN.{length}
 use Rattle.try_rules.proofs.hostile.try_all_cut.Statement.{statement}
 use Rattle.try_rules.proofs.hostile.try_all_cut.Tie as tie
 
 abbrev Inv-loop : tie.InvT-loop
-Inv-loop tally₀ words₀ size₀ tally words size = (size ≤ 21) × (length words ≡ length words₀)
+Inv-loop run₀ size₀ t3 run size = size ≤ 21
 
 abbrev μ-loop : tie.MeasureT-loop
-μ-loop tally₀ words₀ size₀ tally words size = 21 - size
+μ-loop run₀ size₀ t3 run size = 21 - size
 
 loop-holds : tie.Need-loop-holds Inv-loop μ-loop
 loop-holds c = search needs
 
-try-cut-requires : tie.Need-try-cut-requires Inv-loop μ-loop
-try-cut-requires c κs = search needs
+slice-aggregate-first-words : tie.Need-slice-aggregate-first-words Inv-loop μ-loop
+slice-aggregate-first-words c = search needs
+
+first-words-requires : tie.Need-first-words-requires Inv-loop μ-loop
+first-words-requires c κs = search needs
+
+refuse-all-requires : tie.Need-refuse-all-requires Inv-loop μ-loop
+refuse-all-requires c κs = search needs
 
 add-size : tie.Need-add-size Inv-loop μ-loop
 add-size c = search needs
@@ -26,9 +30,6 @@ loop-less c = search needs
 
 loop-again : tie.Need-loop-again Inv-loop μ-loop
 loop-again c = search needs
-
-same-length : tie.Need-same-length Inv-loop μ-loop
-same-length c = search needs
 
 returns : tie.Need-returns Inv-loop μ-loop
 returns c = search needs
@@ -40,9 +41,10 @@ try-all-cut-spec =
     Inv-loop
     μ-loop
     loop-holds
-    try-cut-requires
+    slice-aggregate-first-words
+    first-words-requires
+    refuse-all-requires
     add-size
     loop-less
     loop-again
-    same-length
     returns)

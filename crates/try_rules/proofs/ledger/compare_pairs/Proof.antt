@@ -5,16 +5,13 @@ use Rattle.try_rules.proofs.ledger.compare_pairs.Statement.{statement}
 use Rattle.try_rules.proofs.ledger.compare_pairs.Tie as tie
 
 abbrev Inv-loop : tie.InvT-loop
-Inv-loop tally₀ store ledger i₀ tally i = i ≤ 32
+Inv-loop run₀ store i₀ i-end run i = i ≤ i-end
 
 abbrev μ-loop : tie.MeasureT-loop
-μ-loop tally₀ store ledger i₀ tally i = 32 - i
+μ-loop run₀ store i₀ i-end run i = i-end - i
 
 loop-holds : tie.Need-loop-holds Inv-loop μ-loop
 loop-holds c = search needs
-
-element-copy-out-if1 : tie.Need-element-copy-out-if1 Inv-loop μ-loop
-element-copy-out-if1 c = search needs
 
 compare-with-requires : tie.Need-compare-with-requires Inv-loop μ-loop
 compare-with-requires c κs = search needs
@@ -34,13 +31,4 @@ returns c = search needs
 pub compare-pairs-spec : {M : Type 1} → statement M
 compare-pairs-spec =
     tie.close
-    (tie.spec
-    Inv-loop
-    μ-loop
-    loop-holds
-    element-copy-out-if1
-    compare-with-requires
-    add-i
-    loop-less
-    loop-again
-    returns)
+    (tie.spec Inv-loop μ-loop loop-holds compare-with-requires add-i loop-less loop-again returns)

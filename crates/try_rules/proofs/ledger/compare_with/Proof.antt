@@ -5,19 +5,16 @@ use Rattle.try_rules.proofs.ledger.compare_with.Statement.{statement}
 use Rattle.try_rules.proofs.ledger.compare_with.Tie as tie
 
 abbrev Inv-loop : tie.InvT-loop
-Inv-loop tally₀ store ledger i j₀ tally j = j ≤ i
+Inv-loop run₀ store i ledger j₀ run j = j ≤ i
 
 abbrev μ-loop : tie.MeasureT-loop
-μ-loop tally₀ store ledger i j₀ tally j = i - j
+μ-loop run₀ store i ledger j₀ run j = i - j
 
 loop-holds : tie.Need-loop-holds Inv-loop μ-loop
 loop-holds c = search needs
 
 handle-at-requires : tie.Need-handle-at-requires Inv-loop μ-loop
 handle-at-requires c κs = search needs
-
-add-handle-at : tie.Need-add-handle-at Inv-loop μ-loop
-add-handle-at c = search needs
 
 handle-at-requires-2 : tie.Need-handle-at-requires-2 Inv-loop μ-loop
 handle-at-requires-2 c κs = search needs
@@ -45,7 +42,6 @@ compare-with-spec =
     μ-loop
     loop-holds
     handle-at-requires
-    add-handle-at
     handle-at-requires-2
     compare-pair-requires
     add-j

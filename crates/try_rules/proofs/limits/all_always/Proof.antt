@@ -1,37 +1,35 @@
 -- `all_always` is safe and ends: the loop's place stays within its bound.
 use Prim.Native.Nat.{_-_, _≤_}
-use mathlib.Core.Path.{_≡_}
 use borrow.Author.Needs.{needs}
-use lib.ListN.{length}
 use Rattle.try_rules.proofs.limits.all_always.Statement.{statement}
 use Rattle.try_rules.proofs.limits.all_always.Tie as tie
 
 abbrev Inv-loop : tie.InvT-loop
-Inv-loop table₀ i₀ i-end table i = (i ≤ i-end) × (length table ≡ length table₀)
+Inv-loop table₀ r₀ table r = r ≤ 257
 
 abbrev μ-loop : tie.MeasureT-loop
-μ-loop table₀ i₀ i-end table i = i-end - i
+μ-loop table₀ r₀ table r = 257 - r
 
 loop-holds : tie.Need-loop-holds Inv-loop μ-loop
 loop-holds c = search needs
 
-always-word-requires : tie.Need-always-word-requires Inv-loop μ-loop
-always-word-requires c κs = search needs
+mul-table : tie.Need-mul-table Inv-loop μ-loop
+mul-table c = search needs
 
-put-requires : tie.Need-put-requires Inv-loop μ-loop
-put-requires c κs = search needs
+mul-table-2 : tie.Need-mul-table-2 Inv-loop μ-loop
+mul-table-2 c = search needs
 
-add-i : tie.Need-add-i Inv-loop μ-loop
-add-i c = search needs
+array-write-table : tie.Need-array-write-table Inv-loop μ-loop
+array-write-table c = search needs
+
+add-r : tie.Need-add-r Inv-loop μ-loop
+add-r c = search needs
 
 loop-less : tie.Need-loop-less Inv-loop μ-loop
 loop-less c = search needs
 
 loop-again : tie.Need-loop-again Inv-loop μ-loop
 loop-again c = search needs
-
-same-length : tie.Need-same-length Inv-loop μ-loop
-same-length c = search needs
 
 returns : tie.Need-returns Inv-loop μ-loop
 returns c = search needs
@@ -43,10 +41,10 @@ all-always-spec =
     Inv-loop
     μ-loop
     loop-holds
-    always-word-requires
-    put-requires
-    add-i
+    mul-table
+    mul-table-2
+    array-write-table
+    add-r
     loop-less
     loop-again
-    same-length
     returns)

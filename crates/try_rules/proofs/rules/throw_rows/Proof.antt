@@ -5,10 +5,10 @@ use Rattle.try_rules.proofs.rules.throw_rows.Statement.{statement}
 use Rattle.try_rules.proofs.rules.throw_rows.Tie as tie
 
 abbrev Inv-loop : tie.InvT-loop
-Inv-loop seed₀ store rows table₀ r₀ seed table r = r ≤ rows
+Inv-loop seed store rows table₀ r₀ table r = r ≤ rows
 
 abbrev μ-loop : tie.MeasureT-loop
-μ-loop seed₀ store rows table₀ r₀ seed table r = rows - r
+μ-loop seed store rows table₀ r₀ table r = rows - r
 
 loop-holds : tie.Need-loop-holds Inv-loop μ-loop
 loop-holds c = search needs

@@ -5,16 +5,13 @@ use Rattle.try_rules.proofs.simplifying.compare_sheets.Statement.{state
 use Rattle.try_rules.proofs.simplifying.compare_sheets.Tie as tie
 
 abbrev Inv-loop : tie.InvT-loop
-Inv-loop seed₀ tally₀ left right a sheet₀ i₀ seed tally sheet i = i ≤ 12
+Inv-loop run₀ left right a i₀ run i = i ≤ 12
 
 abbrev μ-loop : tie.MeasureT-loop
-μ-loop seed₀ tally₀ left right a sheet₀ i₀ seed tally sheet i = 12 - i
+μ-loop run₀ left right a i₀ run i = 12 - i
 
 loop-holds : tie.Need-loop-holds Inv-loop μ-loop
 loop-holds c = search needs
-
-throw-sheet-requires : tie.Need-throw-sheet-requires Inv-loop μ-loop
-throw-sheet-requires c κs = search needs
 
 compare-sheet-requires : tie.Need-compare-sheet-requires Inv-loop μ-loop
 compare-sheet-requires c κs = search needs
@@ -34,13 +31,4 @@ returns c = search needs
 pub compare-sheets-spec : {M : Type 1} → statement M
 compare-sheets-spec =
     tie.close
-    (tie.spec
-    Inv-loop
-    μ-loop
-    loop-holds
-    throw-sheet-requires
-    compare-sheet-requires
-    add-i
-    loop-less
-    loop-again
-    returns)
+    (tie.spec Inv-loop μ-loop loop-holds compare-sheet-requires add-i loop-less loop-again returns)

@@ -5,16 +5,16 @@ use Rattle.try_rules.proofs.simplifying.throw_sheet.Statement.{statemen
 use Rattle.try_rules.proofs.simplifying.throw_sheet.Tie as tie
 
 abbrev Inv-loop : tie.InvT-loop
-Inv-loop seed₀ sheet₀ i₀ seed sheet i = i ≤ 16
+Inv-loop seed sheet₀ i₀ sheet i = i ≤ 16
 
 abbrev μ-loop : tie.MeasureT-loop
-μ-loop seed₀ sheet₀ i₀ seed sheet i = 16 - i
+μ-loop seed sheet₀ i₀ sheet i = 16 - i
 
 loop-holds : tie.Need-loop-holds Inv-loop μ-loop
 loop-holds c = search needs
 
-below-requires : tie.Need-below-requires Inv-loop μ-loop
-below-requires c κs = search needs
+throw-requires : tie.Need-throw-requires Inv-loop μ-loop
+throw-requires c κs = search needs
 
 cast-sheet : tie.Need-cast-sheet Inv-loop μ-loop
 cast-sheet c = search needs
@@ -44,7 +44,7 @@ throw-sheet-spec =
     Inv-loop
     μ-loop
     loop-holds
-    below-requires
+    throw-requires
     cast-sheet
     mul-sheet
     element-write-sheet

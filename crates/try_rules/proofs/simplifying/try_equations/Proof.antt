@@ -5,16 +5,19 @@ use Rattle.try_rules.proofs.simplifying.try_equations.Statement.{statem
 use Rattle.try_rules.proofs.simplifying.try_equations.Tie as tie
 
 abbrev Inv-loop : tie.InvT-loop
-Inv-loop seed₀ tally₀ i₀ seed tally i = i ≤ 1000
+Inv-loop run₀ i₀ run i = i ≤ 1000
 
 abbrev μ-loop : tie.MeasureT-loop
-μ-loop seed₀ tally₀ i₀ seed tally i = 1000 - i
+μ-loop run₀ i₀ run i = 1000 - i
 
 loop-holds : tie.Need-loop-holds Inv-loop μ-loop
 loop-holds c = search needs
 
-try-equation-requires : tie.Need-try-equation-requires Inv-loop μ-loop
-try-equation-requires c κs = search needs
+try-thrown-requires : tie.Need-try-thrown-requires Inv-loop μ-loop
+try-thrown-requires c κs = search needs
+
+try-low-requires : tie.Need-try-low-requires Inv-loop μ-loop
+try-low-requires c κs = search needs
 
 add-i : tie.Need-add-i Inv-loop μ-loop
 add-i c = search needs
@@ -31,4 +34,13 @@ returns c = search needs
 pub try-equations-spec : {M : Type 1} → statement M
 try-equations-spec =
     tie.close
-    (tie.spec Inv-loop μ-loop loop-holds try-equation-requires add-i loop-less loop-again returns)
+    (tie.spec
+    Inv-loop
+    μ-loop
+    loop-holds
+    try-thrown-requires
+    try-low-requires
+    add-i
+    loop-less
+    loop-again
+    returns)

@@ -5,16 +5,22 @@ use Rattle.try_rules.proofs.tally.print_refusals.Statement.{statement}
 use Rattle.try_rules.proofs.tally.print_refusals.Tie as tie
 
 abbrev Inv-loop : tie.InvT-loop
-Inv-loop tally number₀ number = number ≤ 64
+Inv-loop met number₀ number = number ≤ 64
 
 abbrev μ-loop : tie.MeasureT-loop
-μ-loop tally number₀ number = 64 - number
+μ-loop met number₀ number = 64 - number
 
 loop-holds : tie.Need-loop-holds Inv-loop μ-loop
 loop-holds c = search needs
 
-times-met-requires : tie.Need-times-met-requires Inv-loop μ-loop
-times-met-requires c κs = search needs
+cast-print-refusal : tie.Need-cast-print-refusal Inv-loop μ-loop
+cast-print-refusal c = search needs
+
+mul-print-refusal : tie.Need-mul-print-refusal Inv-loop μ-loop
+mul-print-refusal c = search needs
+
+array-read-print-refusal : tie.Need-array-read-print-refusal Inv-loop μ-loop
+array-read-print-refusal c = search needs
 
 print-refusal-requires : tie.Need-print-refusal-requires Inv-loop μ-loop
 print-refusal-requires c κs = search needs
@@ -38,7 +44,9 @@ print-refusals-spec =
     Inv-loop
     μ-loop
     loop-holds
-    times-met-requires
+    cast-print-refusal
+    mul-print-refusal
+    array-read-print-refusal
     print-refusal-requires
     add-number
     loop-less

@@ -1,25 +1,29 @@
 -- `rest_left` is safe and ends: the loop's place stays within its bound.
 use Prim.Native.Nat.{_-_, _≤_}
-use mathlib.Core.Path.{_≡_}
 use borrow.Author.Needs.{needs}
-use lib.ListN.{length}
 use Rattle.try_rules.proofs.writing.rest_left.Statement.{statement}
 use Rattle.try_rules.proofs.writing.rest_left.Tie as tie
 
 abbrev Inv-loop : tie.InvT-loop
-Inv-loop words place i₀ i-end i = (i ≤ i-end) × (i-end ≡ length words)
+Inv-loop words place i₀ i = i ≤ 1024
 
 abbrev μ-loop : tie.MeasureT-loop
-μ-loop words place i₀ i-end i = i-end - i
+μ-loop words place i₀ i = 1024 - i
+
+returns : tie.Need-returns Inv-loop μ-loop
+returns c = search needs
 
 loop-holds : tie.Need-loop-holds Inv-loop μ-loop
 loop-holds c = search needs
 
-word-at-requires : tie.Need-word-at-requires Inv-loop μ-loop
-word-at-requires c κs = search needs
+mul-if2 : tie.Need-mul-if2 Inv-loop μ-loop
+mul-if2 c = search needs
 
-returns : tie.Need-returns Inv-loop μ-loop
-returns c = search needs
+element-copy-out-if2 : tie.Need-element-copy-out-if2 Inv-loop μ-loop
+element-copy-out-if2 c = search needs
+
+returns-2 : tie.Need-returns-2 Inv-loop μ-loop
+returns-2 c = search needs
 
 add-i : tie.Need-add-i Inv-loop μ-loop
 add-i c = search needs
@@ -30,8 +34,8 @@ loop-less c = search needs
 loop-again : tie.Need-loop-again Inv-loop μ-loop
 loop-again c = search needs
 
-returns-2 : tie.Need-returns-2 Inv-loop μ-loop
-returns-2 c = search needs
+returns-3 : tie.Need-returns-3 Inv-loop μ-loop
+returns-3 c = search needs
 
 pub rest-left-spec : {M : Type 1} → statement M
 rest-left-spec =
@@ -39,10 +43,12 @@ rest-left-spec =
     (tie.spec
     Inv-loop
     μ-loop
-    loop-holds
-    word-at-requires
     returns
+    loop-holds
+    mul-if2
+    element-copy-out-if2
+    returns-2
     add-i
     loop-less
     loop-again
-    returns-2)
+    returns-3)

@@ -1,25 +1,23 @@
 -- `write_handles` is safe and ends: the loop's place stays within its bound.
 use Prim.Native.Nat.{_-_, _≤_}
-use mathlib.Core.Path.{_≡_}
 use borrow.Author.Needs.{needs}
-use lib.ListN.{length}
 use Rattle.try_rules.proofs.writing.write_handles.Statement.{statement}
 use Rattle.try_rules.proofs.writing.write_handles.Tie as tie
 
 abbrev Inv-loop : tie.InvT-loop
-Inv-loop seed₀ tally₀ ledger store₀ words₀ i₀ seed tally store words i = (i ≤ 31) × (length store ≡ length store₀) × (length words ≡ length words₀)
+Inv-loop run₀ store ledger i₀ i-end run i = i ≤ i-end
 
 abbrev μ-loop : tie.MeasureT-loop
-μ-loop seed₀ tally₀ ledger store₀ words₀ i₀ seed tally store words i = 31 - i
+μ-loop run₀ store ledger i₀ i-end run i = i-end - i
 
 loop-holds : tie.Need-loop-holds Inv-loop μ-loop
 loop-holds c = search needs
 
-add-write-nth : tie.Need-add-write-nth Inv-loop μ-loop
-add-write-nth c = search needs
+handle-at-requires : tie.Need-handle-at-requires Inv-loop μ-loop
+handle-at-requires c κs = search needs
 
-write-nth-requires : tie.Need-write-nth-requires Inv-loop μ-loop
-write-nth-requires c κs = search needs
+write-thrown-requires : tie.Need-write-thrown-requires Inv-loop μ-loop
+write-thrown-requires c κs = search needs
 
 add-i : tie.Need-add-i Inv-loop μ-loop
 add-i c = search needs
@@ -29,12 +27,6 @@ loop-less c = search needs
 
 loop-again : tie.Need-loop-again Inv-loop μ-loop
 loop-again c = search needs
-
-same-length : tie.Need-same-length Inv-loop μ-loop
-same-length c = search needs
-
-same-length-2 : tie.Need-same-length-2 Inv-loop μ-loop
-same-length-2 c = search needs
 
 returns : tie.Need-returns Inv-loop μ-loop
 returns c = search needs
@@ -46,11 +38,9 @@ write-handles-spec =
     Inv-loop
     μ-loop
     loop-holds
-    add-write-nth
-    write-nth-requires
+    handle-at-requires
+    write-thrown-requires
     add-i
     loop-less
     loop-again
-    same-length
-    same-length-2
     returns)

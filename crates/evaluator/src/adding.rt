@@ -1,0 +1,33 @@
+// What build, negate, join and choose must answer, and the words that they must leave, where the grid covers the store's list.
+use crate::answer::Answer;
+use crate::answer::accepted;
+use crate::answer::refused;
+use crate::calls::Call;
+use crate::calls::call_fault;
+use crate::drawing::draw;
+use crate::drawing::ways_of;
+use crate::entries::room;
+use crate::layout::questions;
+use crate::layout::used;
+use crate::words::copy;
+
+// Draws the call's diagram into a copy of the store's words, which is made anew where there is no room.
+fn expect_drawn(call: Call, table: &[u32], store: &[u32], words: &mut [u32]) -> Answer {
+    let ways = ways_of(call, table, store);
+    let handle = draw(words, &ways, 0, 1, questions(store) % 32);
+    if used(words) as usize > room(store) {
+        copy(store, words);
+        return refused(51);
+    }
+    accepted(handle)
+}
+
+// The answer of a call; the store's words afterwards go into a slice that is long enough.
+pub fn expect_added(call: Call, table: &[u32], store: &[u32], words: &mut [u32]) -> Answer {
+    copy(store, words);
+    let fault = call_fault(call, table, store);
+    if fault != 0 {
+        return refused(fault);
+    }
+    expect_drawn(call, table, store, words)
+}

@@ -1,0 +1,79 @@
+// A call of build, negate, join or choose: its refusal, and the meaning that it is to add.
+use crate::grid::sheet_of;
+use crate::layout::fields;
+use crate::rules::table_fault;
+use crate::sound::has_handle;
+use crate::sound::is_sound;
+use crate::truth::combined;
+use crate::truth::handle_truth;
+use crate::truth::rule_truth;
+
+// A call by the kind of row that it stands for: 2 build, 3 negate, 4 join, 5 choose. The handles that a call does not take are 0.
+pub struct Call {
+    pub kind: u32,
+    pub a: u32,
+    pub b: u32,
+    pub c: u32,
+}
+
+// A call with the handles that it takes.
+pub fn call_of(kind: u32, a: u32, b: u32, c: u32) -> Call {
+    match kind {
+        3 => Call {
+            kind: 3,
+            a: a,
+            b: 0,
+            c: 0,
+        },
+        4 => Call {
+            kind: 4,
+            a: a,
+            b: b,
+            c: 0,
+        },
+        5 => Call {
+            kind: 5,
+            a: a,
+            b: b,
+            c: c,
+        },
+        _ => Call {
+            kind: 2,
+            a: 0,
+            b: 0,
+            c: 0,
+        },
+    }
+}
+
+// The refusal of the store, and then of the rule table or of the handles; 0 if there is none.
+pub fn call_fault(call: Call, table: &[u32], store: &[u32]) -> u32 {
+    if !is_sound(store) {
+        return 22;
+    }
+    if call.kind == 2 {
+        return table_fault(store, table);
+    }
+    if has_handle(store, call.a) & has_handle(store, call.b) & has_handle(store, call.c) {
+        return 0;
+    }
+    41
+}
+
+// The meaning of a call at a sheet of the grid.
+pub fn call_truth(call: Call, table: &[u32], store: &[u32], number: u32) -> bool {
+    let sheet = sheet_of(fields(store), number);
+    sheet_truth(call, table, store, &sheet)
+}
+
+fn sheet_truth(call: Call, table: &[u32], store: &[u32], sheet: &[u16]) -> bool {
+    if call.kind == 2 {
+        return rule_truth(table, sheet);
+    }
+    combined(
+        call.kind,
+        handle_truth(store, call.a, sheet),
+        handle_truth(store, call.b, sheet),
+        handle_truth(store, call.c, sheet),
+    )
+}

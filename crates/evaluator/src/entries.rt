@@ -1,0 +1,65 @@
+// The entries of a store, counted from 0: their words, which of them has given words, and how many fit.
+ghost use Prim.Native.Nat.{_<_};
+use crate::layout::questions;
+use crate::layout::used;
+use crate::words::word_at;
+
+// Where the three words of an entry begin.
+pub fn entry_place(store: &[u32], entry: u32) -> usize
+    ensures { λ r. ⌜ (2 < r) × (r < 100000000000) ⌝ }
+{
+    3 + 2 * (questions(store) as usize) + 3 * (entry as usize)
+}
+
+// An entry's question number, and its two handles.
+pub fn question_of(store: &[u32], entry: u32) -> u32 {
+    word_at(store, entry_place(store, entry))
+}
+
+pub fn yes_of(store: &[u32], entry: u32) -> u32 {
+    word_at(store, entry_place(store, entry) + 1)
+}
+
+pub fn no_of(store: &[u32], entry: u32) -> u32 {
+    word_at(store, entry_place(store, entry) + 2)
+}
+
+// Writes the three words of an entry, where they fit.
+pub fn put_entry(store: &mut [u32], entry: u32, question: u32, yes: u32, no: u32) {
+    let place = entry_place(store, entry);
+    if place + 2 < store.len() {
+        store[place] = question;
+        store[place + 1] = yes;
+        store[place + 2] = no;
+    }
+}
+
+fn is_entry(store: &[u32], entry: u32, question: u32, yes: u32, no: u32) -> bool {
+    (question_of(store, entry) == question)
+        & (yes_of(store, entry) == yes)
+        & (no_of(store, entry) == no)
+}
+
+// The first entry with these words, or the number of entries if none has them.
+pub fn find_entry(store: &[u32], question: u32, yes: u32, no: u32) -> u32 {
+    let entries = used(store);
+    for entry in 0..entries {
+        if is_entry(store, entry, question, yes, no) {
+            return entry;
+        }
+    }
+    entries
+}
+
+// How many entries fit.
+pub fn room(store: &[u32]) -> usize {
+    let heading = entry_place(store, 0);
+    if store.len() < heading {
+        return 0;
+    }
+    let fit = (store.len() - heading) / 3;
+    if fit > 4096 {
+        return 4096;
+    }
+    fit
+}

@@ -1,0 +1,62 @@
+// The sheets of up to three counts below ten, numbered in the order that compares field 1 first: the counts are the number's digits. They are
+// a complete test of any rule over a list for which n × (K + 1) is at most nine, K being the largest gap without its sign.
+use crate::layout::fields;
+use crate::layout::left_of;
+use crate::layout::questions;
+use crate::layout::right_of;
+
+// How many sheets there are.
+pub fn sheets_of(n: u32) -> u32 {
+    match n {
+        0 => 1,
+        1 => 10,
+        2 => 100,
+        3 => 1000,
+        _ => 0,
+    }
+}
+
+// The sheet of a number. After its n counts stand zeros.
+pub fn sheet_of(n: u32, number: u32) -> [u16; 3] {
+    let digits = match n {
+        1 => number % 10 * 100,
+        2 => number % 100 * 10,
+        3 => number % 1000,
+        _ => 0,
+    };
+    [
+        (digits / 100 % 10) as u16,
+        (digits / 10 % 10) as u16,
+        (digits % 10) as u16,
+    ]
+}
+
+// The largest gap for n fields.
+fn most_steps(n: u32) -> u32 {
+    match n {
+        0 => 255,
+        1 => 8,
+        2 => 3,
+        3 => 2,
+        _ => 0,
+    }
+}
+
+// Whether the gap of question k is larger. One of a question's sides has no steps.
+fn beyond(store: &[u32], k: u32, most: u32) -> bool {
+    left_of(store, k) / 32 + right_of(store, k) / 32 > most
+}
+
+// Whether the grid is a complete test of the rules over a sound store's list.
+pub fn covers(store: &[u32]) -> bool {
+    let n = fields(store);
+    if n > 3 {
+        return false;
+    }
+    for i in 0..questions(store) {
+        if beyond(store, i + 1, most_steps(n)) {
+            return false;
+        }
+    }
+    true
+}

@@ -1,0 +1,48 @@
+// Which refusal a list of questions asks for.
+use crate::layout::field;
+use crate::layout::steps;
+use crate::words::word_at;
+
+pub fn bad_term(n: u32, term: u32) -> bool {
+    (field(term) > n) | (steps(term) > 255)
+}
+
+// Larger field left, no common steps, and no steps on the left of zero.
+pub fn is_question(left: u32, right: u32) -> bool {
+    let one_sided = (steps(left) == 0) | ((steps(right) == 0) & (field(right) != 0));
+    (field(left) > field(right)) & one_sided
+}
+
+// Left field, right field, left steps and right steps as the digits of one number, so that questions are compared in that order.
+fn order_of(left: u32, right: u32) -> u32 {
+    ((left % 32 * 32 + right % 32) * 256 + left / 32 % 256) * 256 + right / 32 % 256
+}
+
+// The refusal of a question, given where the one before stands in the order. A question's left field is above 0, so the first is above 0.
+fn question_fault(n: u32, left: u32, right: u32, before: u32) -> u32 {
+    if bad_term(n, left) | bad_term(n, right) {
+        return 14;
+    }
+    if !is_question(left, right) {
+        return 15;
+    }
+    if order_of(left, right) <= before {
+        return 16;
+    }
+    0
+}
+
+// The first refusal among the questions of a list.
+pub fn questions_fault(n: u32, list: &[u32]) -> u32 {
+    let mut before = 0;
+    for i in 0..list.len() / 2 {
+        let left = word_at(list, 2 * i);
+        let right = word_at(list, 2 * i + 1);
+        let fault = question_fault(n, left, right, before);
+        if fault != 0 {
+            return fault;
+        }
+        before = order_of(left, right);
+    }
+    0
+}

@@ -1,0 +1,48 @@
+-- `refuse_calls` is safe and ends: the loop's place stays within its bound.
+use Prim.Native.Nat.{_-_, _≤_}
+use mathlib.Core.Path.{_≡_}
+use borrow.Author.Needs.{needs}
+use lib.ListN.{length}
+use Rattle.try_rules.proofs.hostile.refuse_calls.Statement.{statement}
+use Rattle.try_rules.proofs.hostile.refuse_calls.Tie as tie
+
+abbrev Inv-loop : tie.InvT-loop
+Inv-loop run₀ store₀ kind₀ run store kind = (kind ≤ 6) × (length store ≡ length store₀)
+
+abbrev μ-loop : tie.MeasureT-loop
+μ-loop run₀ store₀ kind₀ run store kind = 6 - kind
+
+loop-holds : tie.Need-loop-holds Inv-loop μ-loop
+loop-holds c = search needs
+
+refuse-call-requires : tie.Need-refuse-call-requires Inv-loop μ-loop
+refuse-call-requires c κs = search needs
+
+add-kind : tie.Need-add-kind Inv-loop μ-loop
+add-kind c = search needs
+
+loop-less : tie.Need-loop-less Inv-loop μ-loop
+loop-less c = search needs
+
+loop-again : tie.Need-loop-again Inv-loop μ-loop
+loop-again c = search needs
+
+same-length : tie.Need-same-length Inv-loop μ-loop
+same-length c = search needs
+
+returns : tie.Need-returns Inv-loop μ-loop
+returns c = search needs
+
+pub refuse-calls-spec : {M : Type 1} → statement M
+refuse-calls-spec =
+    tie.close
+    (tie.spec
+    Inv-loop
+    μ-loop
+    loop-holds
+    refuse-call-requires
+    add-kind
+    loop-less
+    loop-again
+    same-length
+    returns)

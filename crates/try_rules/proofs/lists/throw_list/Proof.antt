@@ -1,0 +1,54 @@
+-- `throw_list` is safe and ends: the loop's place stays within its bound.
+use Prim.Native.Nat.{_-_, _≤_}
+use borrow.Author.Needs.{needs}
+use Rattle.try_rules.proofs.lists.throw_list.Statement.{statement}
+use Rattle.try_rules.proofs.lists.throw_list.Tie as tie
+
+abbrev Inv-loop : tie.InvT-loop
+Inv-loop seed times list₀ c₀ list c = c ≤ 63
+
+abbrev μ-loop : tie.MeasureT-loop
+μ-loop seed times list₀ c₀ list c = 63 - c
+
+throw-requires : tie.Need-throw-requires Inv-loop μ-loop
+throw-requires c κs = search needs
+
+throw-requires-2 : tie.Need-throw-requires-2 Inv-loop μ-loop
+throw-requires-2 c κs = search needs
+
+loop-holds : tie.Need-loop-holds Inv-loop μ-loop
+loop-holds c = search needs
+
+add-throw-candidate : tie.Need-add-throw-candidate Inv-loop μ-loop
+add-throw-candidate c = search needs
+
+throw-candidate-requires : tie.Need-throw-candidate-requires Inv-loop μ-loop
+throw-candidate-requires c κs = search needs
+
+add-c : tie.Need-add-c Inv-loop μ-loop
+add-c c = search needs
+
+loop-less : tie.Need-loop-less Inv-loop μ-loop
+loop-less c = search needs
+
+loop-again : tie.Need-loop-again Inv-loop μ-loop
+loop-again c = search needs
+
+returns : tie.Need-returns Inv-loop μ-loop
+returns c = search needs
+
+pub throw-list-spec : {M : Type 1} → statement M
+throw-list-spec =
+    tie.close
+    (tie.spec
+    Inv-loop
+    μ-loop
+    throw-requires
+    throw-requires-2
+    loop-holds
+    add-throw-candidate
+    throw-candidate-requires
+    add-c
+    loop-less
+    loop-again
+    returns)
