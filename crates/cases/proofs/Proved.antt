@@ -1,14 +1,10 @@
 -- Every case of the table holds: what all its calls give, computed at once, is what the table expects.
 use mathlib.Core.Path.{_≡_, refl}
 use mathlib.Core.List.{List, [], _∷_, map}
-use Rattle.cases.specs.Case.{CaseOutcome, outcomes, Case, CaseHolds}
+use Rattle.cases.specs.Case.{CaseOutcome, outcomes, Case, EachHolds}
 use Rattle.cases.specs.Table.{cases}
 use Rattle.cases.proofs.AskingComputes.{asking-computes}
 use Rattle.operations.proofs.Computing.{operations-compute}
-
-abbrev pub All {ℓ} : {A : Type ℓ} → (A → Type 0) → List A → Type 0
-All P [] = Unit {0}
-All P (x ∷ xs) = P x × All P xs
 
 found : List Case → List (List CaseOutcome)
 found table = map (λ c. outcomes (c .start) (c .calls)) table
@@ -16,11 +12,11 @@ found table = map (λ c. outcomes (c .start) (c .calls)) table
 wanted : List Case → List (List CaseOutcome)
 wanted table = map (λ c. c .expected) table
 
-each : (table : List Case) → found table ≡ wanted table → All CaseHolds table
+each : (table : List Case) → found table ≡ wanted table → EachHolds table
 unfolding found wanted
 each [] e = tt
 each (c ∷ table) e = (cc, each table (cc))
 
-pub cases-hold : All CaseHolds cases
+pub cases-hold : EachHolds cases
 unfolding found wanted operations-compute asking-computes
 cases-hold = each cases refl

@@ -93,3 +93,8 @@ pub record Case : Type 0 where
 
 abbrev pub CaseHolds : Case → Type 0
 CaseHolds c = outcomes (c .start) (c .calls) ≡ c .expected
+
+-- every row of a table
+abbrev pub EachHolds : List Case → Type 0
+EachHolds [] = Unit {0}
+EachHolds (c ∷ cs) = CaseHolds c × EachHolds cs

@@ -6,7 +6,7 @@ use mathlib.Core.Logic.{_⊎_, inl, inr}
 use mathlib.Core.Bool.{true, false, cond, false≢true}
 use mathlib.Core.List.{List, _∷_}
 use lib.ListN.{length}
-use Rattle.examples.specs.Best.{sheet, Best, none, some, lesser, best}
+use Rattle.examples.specs.Best.{sheet, Best, none, some, Sized, lesser, best}
 use Rattle.facts.specs.declared.decision.Decision.{Decision}
 use Rattle.facts.specs.declared.decision.Decision.the-variants.{Always, Never, Open}
 use Rattle.facts.specs.declared.fact.Fact.{Fact}
@@ -59,21 +59,16 @@ module _ (ask : ℕ → Equation) (n : ℕ) where
     pub is-least : (v : Valuation) → Satisfies xs t v → NotBefore (sheet n v) r
     pub keeps : (y : List ℕ) → b ≡ some y → NotBefore y r
 
-  -- every sheet has n counts
-  abbrev pub Sized : Best → Type 0
-  Sized none = Unit {0}
-  Sized (some x) = length x ≡ n
-
   pub sheet-size : (v : Valuation) → length (sheet n v) ≡ n
   sheet-size v = counts-length n 1 (at v)
 
-  pub right-sized : {xs : List Fact} {t : Tree} {b r : Best} → Right xs t b r → Sized b → Sized r
+  pub right-sized : {xs : List Fact} {t : Tree} {b r : Best} → Right xs t b r → Sized n b → Sized n r
   right-sized w z = elim (w .comes-of) [
-    | inl e ↦ subst Sized (sym e) z
-    | inr f ↦ subst Sized (sym (f .2)) (sheet-size (f .0))
+    | inl e ↦ subst (Sized n) (sym e) z
+    | inr f ↦ subst (Sized n) (sym (f .2)) (sheet-size (f .0))
   ]
 
-  pass-on : {y : List ℕ} {b r : Best} → length y ≡ n → Sized b → NotBefore y b → ((x : List ℕ) → b ≡ some x → NotBefore x r) → NotBefore y r
+  pass-on : {y : List ℕ} {b r : Best} → length y ≡ n → Sized n b → NotBefore y b → ((x : List ℕ) → b ≡ some x → NotBefore x r) → NotBefore y r
   pass-on {y} {r = r} l z (not-before {x = x} e) k = go (k x refl)
     where
       go : {r : Best} → NotBefore x r → NotBefore y r
@@ -87,7 +82,7 @@ module _ (ask : ℕ → Equation) (n : ℕ) where
     keeps = λ y e. subst (NotBefore y) (sym e) (not-before (lex-irreflexive y));
   }
 
-  leaf-always : (xs : List Fact) (b : Best) → free (state-of xs) ≡ true → Sized b → Right xs (leaf true) b (lesser b (sheet n (least-sheet n (state-of xs))))
+  leaf-always : (xs : List Fact) (b : Best) → free (state-of xs) ≡ true → Sized n b → Right xs (leaf true) b (lesser b (sheet n (least-sheet n (state-of xs))))
   leaf-always xs b f = go b
     where
       fits : Fits xs (least-sheet n (state-of xs))
@@ -96,7 +91,7 @@ module _ (ask : ℕ → Equation) (n : ℕ) where
       first : (v : Valuation) → Fits xs v → lex (sheet n v) (sheet n (least-sheet n (state-of xs))) ≡ false
       first v h = least-not-after n (Fit (state-of xs)) (least-sheet n (state-of xs)) (least-sheet-least n (state-of xs) (state-of-zero xs) f) v (state-exact xs v .1 h)
 
-      go : (b : Best) → Sized b → Right xs (leaf true) b (lesser b (sheet n (least-sheet n (state-of xs))))
+      go : (b : Best) → Sized n b → Right xs (leaf true) b (lesser b (sheet n (least-sheet n (state-of xs))))
       go none z = record {
         comes-of = inr (least-sheet n (state-of xs), (fits, refl), refl);
         is-least = λ v s. not-before (first v (s .0));
@@ -118,7 +113,7 @@ module _ (ask : ℕ → Equation) (n : ℕ) where
   module _ {xs xs₁ xs₂ : List Fact} {t t₁ t₂ : Tree} (from-first : (v : Valuation) → Satisfies xs₁ t₁ v → Satisfies xs t v)
       (from-second : (v : Valuation) → Satisfies xs₂ t₂ v → Satisfies xs t v)
       (either : (v : Valuation) → Satisfies xs t v → Satisfies xs₁ t₁ v ⊎ Satisfies xs₂ t₂ v) where
-    right-parts : {b r o : Best} → Sized b → Right xs₁ t₁ b r → Right xs₂ t₂ r o → Right xs t b o
+    right-parts : {b r o : Best} → Sized n b → Right xs₁ t₁ b r → Right xs₂ t₂ r o → Right xs t b o
     right-parts {b} {r} {o} z w u = record {
       comes-of = elim (u .comes-of) [
         | inl e ↦ elim (w .comes-of) [ inl d ↦ inl (e ∙ d) | inr f ↦ inr (f .0, from-first (f .0) (f .1), e ∙ f .2) ]
@@ -128,7 +123,7 @@ module _ (ask : ℕ → Equation) (n : ℕ) where
         | inl a ↦ pass-on (sheet-size v) (right-sized w z) (w .is-least v a) (u .keeps)
         | inr a ↦ u .is-least v a
       ];
-      keeps = λ x e. pass-on (subst Sized e z) (right-sized w z) (w .keeps x e) (u .keeps);
+      keeps = λ x e. pass-on (subst (Sized n) e z) (right-sized w z) (w .keeps x e) (u .keeps);
     }
 
   -- ---- an entry
@@ -182,14 +177,14 @@ module _ (ask : ℕ → Equation) (n : ℕ) where
     either-way v s = by-test (λ t. truth v (ask k) ≡ t → Satisfies (fact (ask k) true ∷ xs) y v ⊎ Satisfies (fact (ask k) false ∷ xs) m v) (truth v (ask k))
         (λ _ e. inl ((e, s .0), sym (through-yes v e) ∙ s .1)) (λ _ e. inr ((e, s .0), sym (through-no v e) ∙ s .1)) refl
 
-    right-both : {b r o : Best} → Sized b → Right (fact (ask k) true ∷ xs) y b r → Right (fact (ask k) false ∷ xs) m r o → Right xs (node k y m) b o
+    right-both : {b r o : Best} → Sized n b → Right (fact (ask k) true ∷ xs) y b r → Right (fact (ask k) false ∷ xs) m r o → Right xs (node k y m) b o
     right-both = right-parts from-yes from-no either-way
 
     -- the parts may be sought in the other order
-    pub right-turned : {b r o : Best} → Sized b → Right (fact (ask k) false ∷ xs) m b r → Right (fact (ask k) true ∷ xs) y r o → Right xs (node k y m) b o
+    pub right-turned : {b r o : Best} → Sized n b → Right (fact (ask k) false ∷ xs) m b r → Right (fact (ask k) true ∷ xs) y r o → Right xs (node k y m) b o
     right-turned = right-parts from-no from-yes (λ v s. elim (either-way v s) [ inl a ↦ inr a | inr a ↦ inl a ])
 
-  pub best-right : (t : Tree) (xs : List Fact) (b : Best) → free (state-of xs) ≡ true → Sized b → Right xs t b (best ask n t (state-of xs) b)
+  pub best-right : (t : Tree) (xs : List Fact) (b : Best) → free (state-of xs) ≡ true → Sized n b → Right xs t b (best ask n t (state-of xs) b)
   unfolding best
   best-right (leaf false) xs b f z = leaf-never xs b
   best-right (leaf true) xs b f z = leaf-always xs b f z

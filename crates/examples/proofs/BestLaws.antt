@@ -6,17 +6,17 @@ use mathlib.Core.List.{List, _∷_}
 use native.Mathlib.Omega.{arith}
 use lib.ListN.{getD}
 use Rattle.examples.specs.declared.best.Best as code
-use Rattle.examples.specs.Best.{counts-from, sheet, Best, none, some, lesser, best}
+use Rattle.examples.specs.Best.{Sized, counts-from, sheet, Best, none, some, lesser, best}
 use Rattle.examples.specs.Needs.{beaten, sheet-of, best-of, Fields, CanSeek}
 use Rattle.facts.specs.declared.least.Sheet.{Sheet}
 use Rattle.facts.specs.declared.record.Facts.{Facts}
 use Rattle.facts.specs.Least.{least-sheet}
-use Rattle.facts.specs.Needs.{state, HasLeast, LeastCounts}
+use Rattle.facts.specs.Needs.{HasLeast}
+use Rattle.facts.specs.Record.{state, LeastCounts}
 use Rattle.facts.specs.State.{at, free}
 use Rattle.store.specs.Layout.{question}
 use Rattle.store.specs.Tree.{tree}
 use Rattle.terms.specs.Order.{lex}
-use Rattle.examples.proofs.BestExact.{Sized}
 use Rattle.examples.proofs.BestOnly.{best-beaten}
 use Rattle.examples.proofs.Sheets.{counts-length}
 use Rattle.store.proofs.SoundFacts.{sound-says}
@@ -83,10 +83,10 @@ module _ {s : List ℕ} {handle : ℕ} {f : Facts} {n : ℕ} (k : CanSeek s hand
 
   -- ---- no better sheet is left
   -- every sheet of the code has n counts
-  pub sized : (b : code.Best) → Sized (question s) n (best-of n b)
-  sized b = by-test (λ t. Sized (question s) n (cond t (some (sheet-of n (b .sheet))) none)) (b .found) (λ _. counts-length n 1 (λ i. getD (b .sheet .counts) i 0)) (λ _. tt)
+  pub sized : (b : code.Best) → Sized n (best-of n b)
+  sized b = by-test (λ t. Sized n (cond t (some (sheet-of n (b .sheet))) none)) (b .found) (λ _. counts-length n 1 (λ i. getD (b .sheet .counts) i 0)) (λ _. tt)
 
-  stays : (b : Best) → Sized (question s) n b → beaten n (state f) b ≡ true → b ≡ best (question s) n (tree s handle) (state f) b
+  stays : (b : Best) → Sized n b → beaten n (state f) b ≡ true → b ≡ best (question s) n (tree s handle) (state f) b
   stays none z e = absurd (false≢true e)
   stays (some y) z e =
       let h = k .descent .holds in

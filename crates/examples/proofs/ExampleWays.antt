@@ -18,7 +18,7 @@ use Rattle.examples.specs.ExampleSays.{ExampleSays}
 use Rattle.examples.specs.Needs.{sheet-of, best-of, CanSeek, CanWriteSheet, CanGive}
 use Rattle.facts.specs.declared.record.Facts.{Facts}
 use Rattle.facts.specs.Least.{IsLeast, Near}
-use Rattle.facts.specs.Needs.{state, last-field}
+use Rattle.facts.specs.Record.{state, last-field}
 use Rattle.facts.specs.State.{at, start}
 use Rattle.store.specs.Layout.{heading-length, field-count, question-count, used, question, leaves, is-handle}
 use Rattle.store.specs.Meaning.{meaning}

@@ -11,7 +11,8 @@ use Rattle.examples.specs.Needs.{best-of, CanSeek}
 use Rattle.facts.specs.declared.decision.Decision.the-variants.{Always, Never, Open}
 use Rattle.facts.specs.declared.record.Facts.{Facts}
 use Rattle.facts.specs.declared.asking.Asked.{Asked}
-use Rattle.facts.specs.Needs.{state, most-noes, Small, Askable, AskedOf}
+use Rattle.facts.specs.Needs.{Askable}
+use Rattle.facts.specs.Record.{state, most-noes, Small, AskedOf}
 use Rattle.facts.specs.State.{free, no-to, yes-to, decide}
 use Rattle.store.specs.declared.entries.Entry.{Entry}
 use Rattle.store.specs.Layout.{question, entry, leaves}

@@ -1,7 +1,9 @@
 -- The least sheet over the paths of a diagram that lead to always: at each such path the least sheet that fits its facts.
 use Prim.Native.Nat.{ℕ, zero, suc, _+_}
+use mathlib.Core.Path.{_≡_}
 use mathlib.Core.Bool.{true, false, cond}
 use mathlib.Core.List.{List, [], _∷_}
+use lib.ListN.{length}
 use Rattle.facts.specs.declared.decision.Decision.the-variants.{Always, Never, Open}
 use Rattle.facts.specs.Least.{least-sheet}
 use Rattle.facts.specs.State.{State, at, no-to, yes-to, decide}
@@ -23,6 +25,11 @@ sheet n v = counts-from n 1 (at v)
 pub data Best : Type 0 where
   none : Best
   some : List ℕ → Best
+
+-- a sheet of n counts, if there is one
+abbrev pub Sized : ℕ → Best → Type 0
+Sized n none = Unit {0}
+Sized n (some x) = length x ≡ n
 
 -- "field 1 compared first": the earlier of the two
 abbrev pub lesser : Best → List ℕ → Best

@@ -9,7 +9,7 @@ use Rattle.examples.specs.Best.{counts-from, sheet, Best, none, some}
 use Rattle.facts.specs.declared.least.Sheet.{Sheet}
 use Rattle.facts.specs.declared.record.Facts.{Facts}
 use Rattle.facts.specs.Least.{least-sheet}
-use Rattle.facts.specs.Needs.{last-field}
+use Rattle.facts.specs.Record.{last-field}
 use Rattle.facts.specs.State.{State}
 use Rattle.store.specs.Layout.{field-count, used, leaves}
 use Rattle.store.specs.Sound.{sound}

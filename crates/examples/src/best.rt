@@ -2,7 +2,8 @@
 ghost use mathlib.Core.Path.{_≡_};
 ghost use Rattle.examples.specs.Best as spec;
 ghost use Rattle.examples.specs.Needs as needs;
-ghost use Rattle.facts.specs.Needs as facts;
+ghost use Rattle.facts.specs.Needs.{HasLeast};
+ghost use Rattle.facts.specs.Record as facts;
 ghost use Rattle.store.specs.Layout as layout;
 ghost use Rattle.store.specs.Tree as tree;
 ghost use Rattle.terms.specs.Order.{lex};
@@ -60,7 +61,7 @@ fn lesser(n: u32, best: Best, sheet: Sheet) -> Best
 
 // Whether no sheet that fits the facts is before the best so far.
 fn is_beaten(n: u32, best: Best, f: Facts) -> bool
-    requires { ⌜ facts.HasLeast f n ⌝ }
+    requires { ⌜ HasLeast f n ⌝ }
     ensures { λ r. ⌜ r ≡ needs.beaten n (facts.state f) (needs.best-of n best) ⌝ }
 {
     if best.found {

@@ -17,7 +17,8 @@ use Rattle.facts.specs.declared.decision.Decision.the-variants.{Always, 
 use Rattle.facts.specs.declared.decision.Plan.{Plan}
 use Rattle.facts.specs.declared.decision.Plan.the-variants.{Keep, Clash, Join}
 use Rattle.facts.specs.declared.record.Facts.{Facts}
-use Rattle.facts.specs.Needs.{classes-in, state, last-field, most-noes, Small, Askable, RaisedSides, Sides, PlaceJoined, CanJoin, field-places}
+use Rattle.facts.specs.Needs.{Askable, RaisedSides, Sides, PlaceJoined, CanJoin}
+use Rattle.facts.specs.Record.{classes-in, state, last-field, most-noes, Small, field-places}
 use Rattle.terms.specs.Limits.{most-count}
 use Rattle.facts.specs.State.{settled, free, joined, plan, plan-of, planned, yes-to, decide}
 use Rattle.terms.proofs.Cases.{by-eq}

@@ -17,7 +17,8 @@ use Rattle.facts.specs.declared.asking.Asked.{Asked}
 use Rattle.facts.specs.declared.fact.Fact.{Fact}
 use Rattle.facts.specs.Facts.{fact, Fits, Forces}
 use Rattle.facts.specs.Least.{IsLeast, Near, All, RestsOn, least-count, fixed, least-sheet}
-use Rattle.facts.specs.Needs.{state, last-field, most-noes, most-offset, question-at, noes-in, Small, AllSmall, Holds, Within, Askable, AskedOf}
+use Rattle.facts.specs.Needs.{most-offset, Within, Askable}
+use Rattle.facts.specs.Record.{state, last-field, most-noes, question-at, noes-in, Small, AllSmall, Holds, AskedOf}
 use Rattle.terms.specs.Limits.{most-count}
 use Rattle.facts.specs.State.{State, at, Fit, settled, free, left-side, right-side, joined, planned, certain, no-to, yes-to, work-in, start, state-of, decide}
 use Rattle.terms.proofs.Cases.{by-eq, by-test}

@@ -12,7 +12,8 @@ use lib.ListN.{length, getD, set, length-set}
 use lib.Seq.{getD-set-same, getD-set-other}
 use Rattle.facts.specs.declared.decision.Plan.the-variants.{Join}
 use Rattle.facts.specs.declared.record.Facts.{Facts}
-use Rattle.facts.specs.Needs.{state, last-field, CanRaise, field-moved, noes-in, field-places}
+use Rattle.facts.specs.Needs.{CanRaise, field-moved}
+use Rattle.facts.specs.Record.{state, last-field, noes-in, field-places}
 use Rattle.facts.specs.State.{planned}
 use Rattle.facts.proofs.Numbered.{getD-beyond}
 use Rattle.facts.proofs.RecordWays.{getD-inside}

@@ -9,12 +9,12 @@ use native.Mathlib.Decide.{decLe}
 use borrow.Author.Tests.{eqb-true, eq-eqb}
 use Rattle.terms.specs.Meaning.{Valuation, value, truth}
 use Rattle.terms.specs.Words.{field}
-use Rattle.facts.specs.State.{State, at, Fit, free, yes-to, some-sheet}
+use Rattle.facts.specs.State.{ZeroKept, State, at, Fit, free, yes-to, some-sheet}
 use Rattle.facts.specs.Least.{IsLeast, counts, first-from, can-count, least-count, fixed, least-sheet}
 use Rattle.terms.proofs.Cases.{by-test}
 use Rattle.terms.proofs.SimplifyTruth.{count-zero}
 use Rattle.facts.proofs.StateExact.{yes-in, yes-out}
-use Rattle.facts.proofs.StateFree.{ZeroKept, fit-free, free-fit, work-in-zero}
+use Rattle.facts.proofs.StateFree.{fit-free, free-fit, work-in-zero}
 
 -- ---- a count as a fact
 pub counts-true : (v : Valuation) (f x : ℕ) → at v f ≡ x → truth v (counts f x) ≡ true

@@ -15,13 +15,14 @@ use Rattle.facts.specs.declared.record.Facts.{Facts}
 use Rattle.facts.specs.declared.working.Worked.{Worked}
 use Rattle.facts.specs.declared.fact.Fact.{Fact}
 use Rattle.facts.specs.Least.{counts, can-count, least-count, fixed, least-sheet}
-use Rattle.facts.specs.Needs.{state, last-field, field-places, most-noes, Small, AllSmall, Holds, Askable, WorkedYes, CanFix, FixedAt, HasLeast, LeastCounts}
+use Rattle.facts.specs.Needs.{Askable, CanFix, FixedAt, HasLeast}
+use Rattle.facts.specs.Record.{state, last-field, field-places, most-noes, Small, AllSmall, Holds, WorkedYes, LeastCounts}
 use Rattle.terms.specs.Limits.{most-count}
-use Rattle.facts.specs.State.{State, at, Fit, free, yes-to, some-sheet}
+use Rattle.facts.specs.State.{ZeroKept, State, at, Fit, free, yes-to, some-sheet}
 use Rattle.facts.proofs.HeldFacts.{small-more, holds-within, worked-yes, least-counts-bound}
 use Rattle.facts.proofs.LeastSheet.{counts-says, least-count-can, least-count-le, fixed-zero, fixed-at, fixed-down, least-sheet-fits}
 use Rattle.facts.proofs.StateExact.{yes-out}
-use Rattle.facts.proofs.StateFree.{ZeroKept, free-fit, work-in-zero, state-of-zero}
+use Rattle.facts.proofs.StateFree.{free-fit, work-in-zero, state-of-zero}
 
 -- ---- one field
 fix-small : {x count : ℕ} → x ≤ last-field → count ≤ most-count → Small most-count (counts x count)

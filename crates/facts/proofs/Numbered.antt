@@ -7,7 +7,7 @@ use native.Mathlib.Decide.{decLe, ℕ-discrete}
 use lib.ListN.{length, getD, set, replicate, length-set}
 use lib.Seq.{getD-set-same, getD-set-other}
 use Rattle.facts.specs.declared.record.Facts.{Facts}
-use Rattle.facts.specs.Needs.{state, noes-in, field-places}
+use Rattle.facts.specs.Record.{state, noes-in, field-places}
 use Rattle.facts.specs.State.{start}
 
 pub record Numbered (i : ℕ) (f : Facts) : Type 0 where

@@ -8,7 +8,7 @@ use Rattle.facts.specs.declared.fact.Fact.{Fact}
 use Rattle.facts.proofs.fact.Fact as X
 use Rattle.facts.proofs.fact.Fact.Laws as X′
 use Rattle.facts.specs.declared.record.Facts.{Facts}
-use Rattle.facts.specs.Needs.{state}
+use Rattle.facts.specs.Record.{state}
 use Rattle.facts.specs.State.{work-in}
 use Rattle.facts.proofs.record.Facts as T
 use Rattle.facts.proofs.record.Facts.Laws as T′

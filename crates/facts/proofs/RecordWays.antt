@@ -13,7 +13,7 @@ use Rattle.terms.specs.Words.{equation, term-of, word-of}
 use Rattle.terms.specs.declared.term.Equation.{Equation}
 use Rattle.terms.specs.declared.term.Term.{Term}
 use Rattle.facts.specs.declared.record.Facts.{Facts}
-use Rattle.facts.specs.Needs.{state, most-noes, question-at, noes-in, Small}
+use Rattle.facts.specs.Record.{state, most-noes, question-at, noes-in, Small}
 use Rattle.terms.specs.Limits.{most-count}
 use Rattle.facts.specs.State.{Classes, settled, none-settled, no-to}
 use Rattle.terms.proofs.TermWords.{term-of-word-of}

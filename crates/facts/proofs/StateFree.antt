@@ -13,7 +13,7 @@ use Rattle.terms.specs.declared.term.Equation.{Equation}
 use Rattle.terms.specs.Meaning.{Valuation, count, truth}
 use Rattle.terms.specs.Words.{field}
 use Rattle.facts.specs.declared.fact.Fact.{Fact}
-use Rattle.facts.specs.State.{Classes, State, AllFalse, Classed, Fit, left-side, right-side, settled, none-settled, free, joined, planned, work-in, state-of, spacing, some-sheet}
+use Rattle.facts.specs.State.{ZeroKept, Classes, State, AllFalse, Classed, Fit, left-side, right-side, settled, none-settled, free, joined, planned, work-in, state-of, spacing, some-sheet}
 use Rattle.terms.proofs.Cases.{by-eq, by-test}
 use Rattle.facts.proofs.PlanCases.{plan-cases, settled-cases}
 use Rattle.facts.proofs.StateExact.{on-bases, from-bases}
@@ -36,11 +36,6 @@ pub settled-fit : {s : State} {v : Valuation} → Fit s v → (q : Equation) →
 settled-fit k q t = settled-true (k .classed) q t
 
 -- ---- free, so fitted
--- field 0 is in class 0, at its base
-pub record ZeroKept (c : Classes) : Type 0 where
-  pub class-zero : c .class 0 ≡ 0
-  pub offset-zero : c .offset 0 ≡ 0
-
 spacing-pos : (c : Classes) (qs : List Equation) → 0 < spacing c qs
 unfolding spacing
 spacing-pos c [] = omega arith

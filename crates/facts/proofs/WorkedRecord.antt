@@ -17,7 +17,8 @@ use Rattle.facts.specs.declared.decision.Plan.the-variants.{Keep, Clash,
 use Rattle.facts.specs.declared.record.Facts.{Facts}
 use Rattle.facts.specs.declared.fact.Fact.{Fact}
 use Rattle.facts.specs.Facts.{fact}
-use Rattle.facts.specs.Needs.{state, last-field, most-offset, noes-in, Askable, CanAnswerYes, CanAnswerNo, CanAnswer, CanAddFact, CanJoin, WorkedYes, AskedOf}
+use Rattle.facts.specs.Needs.{most-offset, Askable, CanAnswerYes, CanAnswerNo, CanAnswer, CanAddFact, CanJoin}
+use Rattle.facts.specs.Record.{state, last-field, noes-in, WorkedYes, AskedOf}
 use Rattle.terms.specs.Limits.{most-count}
 use Rattle.facts.specs.State.{State, settled, free, plan, plan-of, planned, no-to, yes-to, work-in, decide}
 use Rattle.facts.proofs.decision.Decision.{the-type}

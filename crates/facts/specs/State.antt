@@ -31,6 +31,11 @@ abbrev pub AllFalse : Valuation → List Equation → Type 0
 AllFalse v [] = Unit {0}
 AllFalse v (q ∷ qs) = (truth v q ≡ false) × AllFalse v qs
 
+-- field 0 is in class 0, at its base
+pub record ZeroKept (c : Classes) : Type 0 where
+  pub class-zero : c .class 0 ≡ 0
+  pub offset-zero : c .offset 0 ≡ 0
+
 -- a choice of counts comes of these bases
 pub record Classed (c : Classes) (base : ℕ → ℕ) (v : Valuation) : Type 0 where
   pub at-zero : base 0 ≡ 0

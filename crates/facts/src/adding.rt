@@ -1,7 +1,8 @@
 // Adding a fact to a record that is lent.
 ghost use mathlib.Core.Path.{_≡_};
 ghost use Prim.Native.Nat.{_<_};
-ghost use Rattle.facts.specs.Needs as spec;
+ghost use Rattle.facts.specs.Needs as need;
+ghost use Rattle.facts.specs.Record as spec;
 ghost use Rattle.facts.specs.State as state;
 ghost use Rattle.terms.specs.Limits.{most-count};
 use crate::fact::Fact;
@@ -11,7 +12,7 @@ use terms::Equation;
 
 // Adds a fact, whichever its answer: the record is copied out, worked on by value, and stored back whole.
 pub fn add(f: &mut Facts, x: Fact)
-    requires { ⌜ spec.CanAddFact (now f) x ⌝ }
+    requires { ⌜ need.CanAddFact (now f) x ⌝ }
     ensures { λ _. ⌜ spec.state (now (f .exit)) ≡ state.work-in (spec.state (now (f .entry))) (x .question) (x .answer) ⌝ }
 {
     let old = *f;
@@ -21,7 +22,7 @@ pub fn add(f: &mut Facts, x: Fact)
 
 // The facts with one more, for callers that pass records by value: a record of its own is lent.
 pub fn added(f: Facts, x: Fact) -> Facts
-    requires { ⌜ spec.CanAddFact f x ⌝ }
+    requires { ⌜ need.CanAddFact f x ⌝ }
     ensures { λ r. ⌜ spec.state r ≡ state.work-in (spec.state f) (x .question) (x .answer) ⌝ }
 {
     let mut g = f;

@@ -1,6 +1,7 @@
 // Asking a question of the facts.
 ghost use mathlib.Core.Path.{_≡_};
-ghost use Rattle.facts.specs.Needs as spec;
+ghost use Rattle.facts.specs.Needs as need;
+ghost use Rattle.facts.specs.Record as spec;
 use crate::adding::added;
 use crate::deciding::decision_of;
 use crate::decision::Decision;
@@ -16,7 +17,7 @@ pub struct Asked {
 
 // What the facts say of a question and, where it is open, the facts with it answered yes.
 pub fn ask(f: Facts, q: Equation) -> Asked
-    requires { ⌜ spec.Askable f q ⌝ }
+    requires { ⌜ need.Askable f q ⌝ }
     ensures { λ r. ⌜ spec.AskedOf f q r ⌝ }
 {
     let decision = decision_of(f, q);

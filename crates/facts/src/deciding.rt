@@ -3,7 +3,8 @@ ghost use mathlib.Core.Path.{_≡_};
 ghost use mathlib.Core.Bool.{_&&_};
 ghost use Prim.Native.Nat.{_+_, _<_, _^_};
 ghost use lib.Dec.{eqb};
-ghost use Rattle.facts.specs.Needs as spec;
+ghost use Rattle.facts.specs.Needs as need;
+ghost use Rattle.facts.specs.Record as spec;
 ghost use Rattle.facts.specs.State as state;
 use crate::decision::Decision;
 use crate::decision::Plan;
@@ -22,7 +23,7 @@ struct Place {
 // The place of a term, once the class `from` is part of the class `into`, its base `by` above.
 fn place_joined(class: u32, side: u32, into: u32, from: u32, by: u32) -> Place
     requires { ⌜ side + by < 2 ^ 32 ⌝ }
-    ensures { λ r. ⌜ spec.PlaceJoined class side into from by r ⌝ }
+    ensures { λ r. ⌜ need.PlaceJoined class side into from by r ⌝ }
 {
     if class == from {
         return Place {
@@ -45,7 +46,7 @@ fn meet(l: Place, r: Place) -> bool
 
 // What an answer yes to a question asks of the classes.
 pub fn plan_in<'a>(class: &'a Numbers, offset: &'a Numbers, q: Equation) -> Plan
-    requires { ⌜ spec.Sides (now class) (now offset) q ⌝ }
+    requires { ⌜ need.Sides (now class) (now offset) q ⌝ }
     ensures { λ r. ⌜ r ≡ state.plan-of (spec.classes-in (now (class .entry)) (now (offset .entry))) q ⌝ }
 {
     let x = q.left.field.0 as usize;
@@ -67,7 +68,7 @@ fn join_settles<'a>(
     from: u32,
     by: u32,
 ) -> bool
-    requires { ⌜ spec.RaisedSides (now class) (now offset) q by ⌝ }
+    requires { ⌜ need.RaisedSides (now class) (now offset) q by ⌝ }
     ensures { λ r. ⌜ r
         ≡ state.settled (state.joined (spec.classes-in (now (class .entry)) (now (offset .entry))) into from by) q ⌝ }
 {
@@ -81,7 +82,7 @@ fn join_settles<'a>(
 
 // What the facts say of a question.
 pub fn decision_of(f: Facts, q: Equation) -> Decision
-    requires { ⌜ spec.Askable f q ⌝ }
+    requires { ⌜ need.Askable f q ⌝ }
     ensures { λ r. ⌜ r ≡ state.decide (spec.state f) q ⌝ }
 {
     match plan_in(&f.class, &f.offset, q) {
@@ -98,7 +99,7 @@ pub fn decision_of(f: Facts, q: Equation) -> Decision
 
 // Whether a join settles no question answered no.
 pub fn join_is_free(f: Facts, into: u32, from: u32, by: u32) -> bool
-    requires { ⌜ spec.CanJoin f by ⌝ }
+    requires { ⌜ need.CanJoin f by ⌝ }
     ensures { λ r. ⌜ r ≡ state.free (state.planned (spec.state f) (Plan.Join into from by)) ⌝ }
 {
     let mut i: usize = 0;

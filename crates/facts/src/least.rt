@@ -1,7 +1,8 @@
 // The least sheet that fits the facts.
 ghost use mathlib.Core.Path.{_≡_};
 ghost use Rattle.facts.specs.Least as least;
-ghost use Rattle.facts.specs.Needs as spec;
+ghost use Rattle.facts.specs.Needs as need;
+ghost use Rattle.facts.specs.Record as spec;
 use crate::record::FIELDS;
 use crate::record::Facts;
 use crate::record::offset_of;
@@ -41,8 +42,8 @@ fn has_count(x: Field, count: u32) -> Equation
 // The least count that a field can have: no count is below the field's offset, and above it a candidate fails only where a question
 // answered no would be settled.
 fn fix_field(f: Facts, x: Field) -> Fixed
-    requires { ⌜ spec.CanFix f (x .0) ⌝ }
-    ensures { λ r. ⌜ spec.FixedAt f (x .0) r ⌝ }
+    requires { ⌜ need.CanFix f (x .0) ⌝ }
+    ensures { λ r. ⌜ need.FixedAt f (x .0) r ⌝ }
 {
     let mut count = offset_of(f, x);
     loop {
@@ -57,7 +58,7 @@ fn fix_field(f: Facts, x: Field) -> Fixed
 
 // The least sheet of the fields 1 to n that fits the facts: each field in turn has the least count that it can have beside those before it.
 pub fn least_sheet(mut f: Facts, n: u32) -> Sheet
-    requires { ⌜ spec.HasLeast f n ⌝ }
+    requires { ⌜ need.HasLeast f n ⌝ }
     ensures { λ r. ⌜ spec.LeastCounts f n r ⌝ }
 {
     let mut counts = [0u32; FIELDS];

@@ -1,7 +1,7 @@
 // The record of the facts gathered along a path.
 ghost use mathlib.Core.Path.{_≡_};
 ghost use Prim.Native.Nat.{_≤_};
-ghost use Rattle.facts.specs.Needs as spec;
+ghost use Rattle.facts.specs.Record as spec;
 ghost use Rattle.facts.specs.State as state;
 use terms::Field;
 use terms::MOST_FIELDS;

@@ -3,7 +3,8 @@ ghost use mathlib.Core.Path.{_≡_};
 ghost use mathlib.Core.Bool.{false};
 ghost use Prim.Native.Nat.{ℕ, _+_, _≤_, _<_, _^_};
 ghost use lib.ListN.{getD};
-ghost use Rattle.facts.specs.Needs as spec;
+ghost use Rattle.facts.specs.Needs as need;
+ghost use Rattle.facts.specs.Record as spec;
 ghost use Rattle.facts.specs.State as state;
 use crate::deciding::join_is_free;
 use crate::deciding::plan_in;
@@ -22,8 +23,8 @@ pub struct Worked {
 
 // A field moves to the class `into`, its offset `by` higher.
 fn join_field(mut f: Facts, i: usize, into: u32, by: u32) -> Facts
-    requires { ⌜ spec.CanRaise f i by ⌝ }
-    ensures { λ r. ⌜ r ≡ spec.field-moved f i into by ⌝ }
+    requires { ⌜ need.CanRaise f i by ⌝ }
+    ensures { λ r. ⌜ r ≡ need.field-moved f i into by ⌝ }
 {
     f.class[i] = into;
     f.offset[i] = f.offset[i] + by;
@@ -48,7 +49,7 @@ fn join(mut f: Facts, into: u32, from: u32, by: u32) -> Facts
 
 // The facts with a question answered yes, if some choice of counts fits them then.
 pub fn yes(f: Facts, q: Equation) -> Worked
-    requires { ⌜ spec.Askable f q ⌝ }
+    requires { ⌜ need.Askable f q ⌝ }
     ensures { λ r. ⌜ spec.WorkedYes f q r ⌝ }
 {
     match plan_in(&f.class, &f.offset, q) {
@@ -69,7 +70,7 @@ pub fn yes(f: Facts, q: Equation) -> Worked
 
 // The facts with a question answered yes, where some choice of counts fits them then.
 fn with_yes(f: Facts, q: Equation) -> Facts
-    requires { ⌜ spec.CanAnswerYes f q ⌝ }
+    requires { ⌜ need.CanAnswerYes f q ⌝ }
     ensures { λ r. ⌜ spec.state r ≡ state.yes-to (spec.state f) q ⌝ }
 {
     match plan_in(&f.class, &f.offset, q) {
@@ -81,7 +82,7 @@ fn with_yes(f: Facts, q: Equation) -> Facts
 
 // The facts with a question answered no.
 fn with_no(mut f: Facts, q: Equation) -> Facts
-    requires { ⌜ spec.CanAnswerNo f q ⌝ }
+    requires { ⌜ need.CanAnswerNo f q ⌝ }
     ensures { λ r. ⌜ spec.state r ≡ state.no-to (spec.state f) q ⌝ }
 {
     let i = f.noes;
@@ -93,7 +94,7 @@ fn with_no(mut f: Facts, q: Equation) -> Facts
 
 // The facts with an answer worked in, by value: what `add` does to a record that is lent to it.
 pub fn with_fact(f: Facts, x: Fact) -> Facts
-    requires { ⌜ spec.CanAddFact f x ⌝ }
+    requires { ⌜ need.CanAddFact f x ⌝ }
     ensures { λ r. ⌜ spec.state r ≡ state.work-in (spec.state f) (x .question) (x .answer) ⌝ }
 {
     let q = x.question;

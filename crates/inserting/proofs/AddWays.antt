@@ -11,7 +11,7 @@ use lib.Seq.{getD-append-add, getD-take, getD-set-same, getD-set-other, ext-getD
 use Rattle.diagram.specs.declared.placing.Placed.{Placed}
 use Rattle.diagram.specs.declared.placing.Placed.the-variants.{At, Full}
 use Rattle.facts.specs.declared.record.Facts.{Facts}
-use Rattle.facts.specs.Needs.{state}
+use Rattle.facts.specs.Record.{state}
 use Rattle.facts.specs.State.{start}
 use Rattle.index.specs.Needs.{EntriesFit, Loaded}
 use Rattle.inserting.specs.Given.{Taken}

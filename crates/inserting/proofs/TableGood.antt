@@ -6,7 +6,7 @@ use mathlib.Core.List.{List}
 use mathlib.Core.Option.{none}
 use native.Mathlib.Omega.{arith}
 use lib.ListN.{length}
-use Rattle.facts.specs.Needs.{last-field, Small}
+use Rattle.facts.specs.Record.{last-field, Small}
 use Rattle.store.specs.Layout.{field-count}
 use Rattle.tables.specs.declared.decoding.Shape.{Shape}
 use Rattle.tables.specs.declared.decoding.Shape.the-variants.{Leaf, Equation, Choice}

@@ -8,7 +8,8 @@ use native.Mathlib.Omega.{arith}
 use Rattle.facts.specs.declared.decision.Decision.the-variants.{Open}
 use Rattle.facts.specs.declared.record.Facts.{Facts}
 use Rattle.facts.specs.declared.asking.Asked.{Asked}
-use Rattle.facts.specs.Needs.{state, most-noes, Small, Askable, AskedOf}
+use Rattle.facts.specs.Needs.{Askable}
+use Rattle.facts.specs.Record.{state, most-noes, Small, AskedOf}
 use Rattle.facts.specs.State.{start, no-to, decide}
 use Rattle.store.specs.declared.entries.Entry.{Entry}
 use Rattle.store.specs.Layout.{field-count, question, entry, used, leaves}

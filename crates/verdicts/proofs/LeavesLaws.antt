@@ -9,7 +9,7 @@ use lib.Dec.{eqb}
 use Rattle.facts.specs.declared.decision.Decision.the-variants.{Always, Never, Open}
 use Rattle.facts.specs.declared.record.Facts.{Facts}
 use Rattle.facts.specs.declared.asking.Asked.{Asked}
-use Rattle.facts.specs.Needs.{state, AskedOf}
+use Rattle.facts.specs.Record.{state, AskedOf}
 use Rattle.facts.specs.State.{no-to, yes-to, decide}
 use Rattle.store.specs.declared.entries.Entry.{Entry}
 use Rattle.store.specs.Layout.{question, entry, leaves}

@@ -4,7 +4,7 @@ use mathlib.Core.Path.{_≡_}
 use mathlib.Core.Bool.{true}
 use mathlib.Core.List.{List}
 use Rattle.facts.specs.declared.record.Facts.{Facts}
-use Rattle.facts.specs.Needs.{Holds}
+use Rattle.facts.specs.Record.{Holds}
 use Rattle.store.specs.Layout.{question-count, used, entry, leaves}
 use Rattle.store.specs.Sound.{sound}
 use Rattle.terms.specs.declared.limits.Limits.{Limits}

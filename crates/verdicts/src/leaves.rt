@@ -1,7 +1,7 @@
 // Which leaves some sheet reaches from a handle.
 ghost use mathlib.Core.Path.{_≡_};
 ghost use mathlib.Core.Bool.{_||_};
-ghost use Rattle.facts.specs.Needs as facts;
+ghost use Rattle.facts.specs.Record as facts;
 ghost use Rattle.store.specs.Layout as layout;
 ghost use Rattle.store.specs.Tree as tree;
 ghost use Rattle.verdicts.specs.Leaves as spec;

@@ -8,7 +8,8 @@ use borrow.Author.Tests.{eq-eqb, ne-eqb}
 use Rattle.facts.specs.declared.decision.Decision.{Decision}
 use Rattle.facts.specs.declared.decision.Decision.the-variants.{Always, Never, Open}
 use Rattle.facts.specs.declared.record.Facts.{Facts}
-use Rattle.facts.specs.Needs.{state, Askable}
+use Rattle.facts.specs.Needs.{Askable}
+use Rattle.facts.specs.Record.{state}
 use Rattle.facts.specs.State.{State, decide}
 use Rattle.store.specs.declared.entries.Entry.{Entry}
 use Rattle.store.specs.Layout.{question, used, entry, leaves}

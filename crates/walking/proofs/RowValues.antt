@@ -14,7 +14,8 @@ use lib.Seq.{getD-set-same, getD-set-other}
 use Rattle.facts.specs.declared.decision.Decision.{Decision}
 use Rattle.facts.specs.declared.decision.Decision.the-variants.{Always, Never, Open}
 use Rattle.facts.specs.declared.record.Facts.{Facts}
-use Rattle.facts.specs.Needs.{state, Askable}
+use Rattle.facts.specs.Needs.{Askable}
+use Rattle.facts.specs.Record.{state}
 use Rattle.facts.specs.State.{State, decide}
 use Rattle.tables.specs.declared.decoding.Part.{Part}
 use Rattle.tables.specs.declared.decoding.Part.the-variants as part

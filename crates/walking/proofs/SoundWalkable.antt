@@ -6,7 +6,7 @@ use mathlib.Core.Bool.{true}
 use mathlib.Core.List.{List}
 use native.Mathlib.Omega.{arith}
 use Rattle.facts.specs.declared.record.Facts.{Facts}
-use Rattle.facts.specs.Needs.{state}
+use Rattle.facts.specs.Record.{state}
 use Rattle.terms.specs.Limits.{most-count}
 use Rattle.facts.specs.State.{start}
 use Rattle.terms.specs.declared.limits.Limits.{Limits}

@@ -10,7 +10,8 @@ use Rattle.facts.specs.declared.decision.Decision.{Decision}
 use Rattle.facts.specs.declared.decision.Decision.the-variants.{Open}
 use Rattle.facts.specs.declared.record.Facts.{Facts}
 use Rattle.facts.specs.declared.asking.Asked.{Asked}
-use Rattle.facts.specs.Needs.{state, most-noes, Small, Holds, Askable, AskedOf}
+use Rattle.facts.specs.Needs.{Askable}
+use Rattle.facts.specs.Record.{state, most-noes, Small, Holds, AskedOf}
 use Rattle.terms.specs.Limits.{most-count}
 use Rattle.facts.specs.State.{State, no-to, decide}
 use Rattle.terms.specs.declared.limits.Limits.{Limits}

@@ -13,7 +13,7 @@ use Rattle.facts.specs.declared.decision.Decision.{Decision}
 use Rattle.facts.specs.declared.decision.Decision.the-variants.{Always, Never, Open}
 use Rattle.facts.specs.declared.record.Facts.{Facts}
 use Rattle.facts.specs.declared.asking.Asked.{Asked}
-use Rattle.facts.specs.Needs.{state, AskedOf}
+use Rattle.facts.specs.Record.{state, AskedOf}
 use Rattle.facts.specs.State.{State, no-to, yes-to, decide}
 use Rattle.terms.specs.declared.limits.Limits.{Limits}
 use Rattle.store.specs.Layout.{question, entry-of}

@@ -3,7 +3,7 @@ use Prim.Native.Nat.{ℕ, _+_, _≤_, _<_}
 use mathlib.Core.Path.{_≡_, sym, subst}
 use mathlib.Core.List.{List}
 use native.Mathlib.Omega.{arith}
-use Rattle.facts.specs.Needs.{Small}
+use Rattle.facts.specs.Record.{Small}
 use Rattle.store.specs.declared.entries.Entry.{Entry}
 use Rattle.store.specs.Entries.{with-entry}
 use Rattle.store.specs.Grown.{Agree}

@@ -9,7 +9,7 @@ use Rattle.diagram.specs.declared.placing.Placed.the-variants.{At}
 use Rattle.facts.specs.declared.decision.Decision.{Decision}
 use Rattle.facts.specs.declared.decision.Decision.the-variants.{Always, Never, Open}
 use Rattle.facts.specs.declared.record.Facts.{Facts}
-use Rattle.facts.specs.Needs.{most-noes, Small, Holds}
+use Rattle.facts.specs.Record.{most-noes, Small, Holds}
 use Rattle.index.specs.Needs.{Searchable}
 use Rattle.store.specs.Layout.{question-count, used, question, entries-start, entry, leaves}
 use Rattle.tables.specs.declared.decoding.Shape.{Shape}

@@ -1,6 +1,6 @@
 // The walk over the questions of a list.
 ghost use mathlib.Core.Path.{_≡_};
-ghost use Rattle.facts.specs.Needs as facts;
+ghost use Rattle.facts.specs.Record as facts;
 ghost use Rattle.store.specs.Outcome.{outcome};
 ghost use Rattle.walking.specs.Needs.{leaf-of, CanWalk, InIndex};
 ghost use Rattle.walking.specs.Walk as spec;

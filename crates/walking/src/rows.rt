@@ -1,7 +1,7 @@
 // What the facts say of a rule table.
 ghost use mathlib.Core.Path.{_≡_};
 ghost use Prim.Native.Nat.{_<_};
-ghost use Rattle.facts.specs.Needs as facts;
+ghost use Rattle.facts.specs.Record as facts;
 ghost use Rattle.tables.specs.Decoding.{LowerPart};
 ghost use Rattle.tables.specs.Rows.{most-rows, row};
 ghost use Rattle.walking.specs.Needs.{said, value-number, AsksRow, AsksTable};

@@ -1,6 +1,6 @@
 // What the facts say of the subject of a walk.
 ghost use mathlib.Core.Path.{_≡_};
-ghost use Rattle.facts.specs.Needs as facts;
+ghost use Rattle.facts.specs.Record as facts;
 ghost use Rattle.walking.specs.Needs.{HasValue};
 ghost use Rattle.walking.specs.Value as spec;
 use crate::handles::handle_value;

@@ -121,7 +121,7 @@ module _ (P : Outcome Joins → Type 0) where
 abbrev Alike : Outcome Joins → Type 0
 Alike o = SameHandles (o .answer)
 
-pub joins-alike : (limits : Limits) (n : ℕ) (list first second s : List ℕ) → Alike (joined-both-ways limits n list first second s)
+pub joins-alike : (limits : Limits) (n : ℕ) (list first second s : List ℕ) → SameHandles (joined-both-ways limits n list first second s .answer)
 unfolding joined-both-ways
 joins-alike limits n list first second s =
     by-opened Alike limits n list s _ (λ e.

@@ -32,7 +32,7 @@ use Rattle.terms.specs.Order.{Order, fields-first}
 use Rattle.terms.specs.Simplify.{simplify}
 use Rattle.terms.specs.Words.{allows}
 use Rattle.writing.specs.WriteBack.{reachable, marked-before, written-rows, written-count}
-use Rattle.writing.specs.WrittenRow.{AsksListed, WrittenRow}
+use Rattle.writing.specs.WrittenRow.{WrittenShape, WrittenRow}
 use Rattle.store.proofs.SoundList.{each-accepted, accepted-allows}
 use Rattle.tables.proofs.TableTaken.{all-fine}
 use Rattle.terms.proofs.Cases.{by-eq, by-test}
@@ -85,14 +85,14 @@ module _ {limits : Limits} {s : List ℕ} (snd : Sound limits s) where
       let listed : guard-listed s (simplify (question s j)) ≡ true = rw stays (numbered-listed s j (question-count s) first last) in
       rw (allowed, listed)
 
-  shape-fine : (sh : Shape) → AsksListed s sh → shape-fault within s sh ≡ none
+  shape-fine : (sh : Shape) → WrittenShape s sh → shape-fault within s sh ≡ none
   shape-fine (Leaf b) a = refl
   shape-fine (Equation e) a = rw (a .3) (question-fine (a .0) (a .1) (a .2))
   shape-fine (Choice x y z) a = refl
 
   row-fine : (i : ℕ) (r : Row) → WrittenRow s i r → row-fault within s i r ≡ none
   unfolding row-fault
-  row-fine i r w = rw (w .formed) (shape-fine (decode r) (w .listed))
+  row-fine i r w = rw (w .formed) (shape-fine (decode r) (w .shape))
 
   module _ (h : ℕ) (u : h < used s + leaves) where
     some-rows : 1 ≤ written-count s h

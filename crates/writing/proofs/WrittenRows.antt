@@ -158,7 +158,7 @@ module _ {limits : Limits} {s : List ℕ} (snd : Sound limits s) (h : ℕ) (u : 
     unfolding well-formed
     first-formed =
         let k = snd .entry-kept i (omega arith) in
-        record { formed = rw (first-kind, first-c); listed = rw first-shape (entry s i .question, k .asks-some, k .asks-listed, refl) }
+        record { formed = rw (first-kind, first-c); shape = rw first-shape (entry s i .question, k .asks-some, k .asks-listed, refl) }
 
     second-formed : WrittenRow s (3 + 2 * before) second
     unfolding well-formed
@@ -169,7 +169,7 @@ module _ {limits : Limits} {s : List ℕ} (snd : Sound limits s) (h : ℕ) (u : 
         lt-ltb (second .b) (3 + 2 * before) (omega (arith, second-b, yes-row-lower)),
         lt-ltb (second .c) (3 + 2 * before) (omega (arith, second-c, no-row-lower)),
       );
-      listed = rw second-shape tt;
+      shape = rw second-shape (tt, tt, tt);
     }
 
   pub leaf-word : (k : ℕ) → k < 8 → getD (written-rows s h) k 0 ≡ getD leaf-rows k 0
@@ -195,7 +195,7 @@ module _ {limits : Limits} {s : List ℕ} (snd : Sound limits s) (h : ℕ) (u : 
 
 -- a row of kind 0 or 1 with nothing beside it
 leaf-formed : (s : List ℕ) (i : ℕ) (r : Row) (b : Bool) → decode r ≡ Leaf b → well-formed i r ≡ true → WrittenRow s i r
-leaf-formed s i r b e f = record { formed = f; listed = rw e tt }
+leaf-formed s i r b e f = record { formed = f; shape = rw e tt }
 
 module _ (s : List ℕ) (i : ℕ) (r : Row) (a : r .a ≡ 0) (b : r .b ≡ 0) (c : r .c ≡ 0) where
   never-formed : r .kind ≡ 0 → WrittenRow s i r

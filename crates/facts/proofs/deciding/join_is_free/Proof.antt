@@ -1,7 +1,7 @@
 -- `join_is_free` meets its contract: the questions passed are not settled by the joined classes, and one that is settles the matter.
 use Prim.Native.Nat.{_-_}
 use borrow.Author.Needs.{needs}
-use Rattle.facts.specs.Needs.{state}
+use Rattle.facts.specs.Record.{state}
 use Rattle.facts.specs.State.{joined}
 use Rattle.facts.proofs.RecordWays.{PassedNoes, passed-none, passed-next, all-passed, settled-found}
 use Rattle.facts.proofs.DecideWays.{raised-sides}

@@ -3,7 +3,7 @@ use Prim.Native.Nat.{_≤_, _-_}
 use native.Mathlib.Omega.{arith}
 use borrow.Author.Needs.{needs}
 use Rattle.facts.specs.Least.{least-count}
-use Rattle.facts.specs.Needs.{state}
+use Rattle.facts.specs.Record.{state}
 use Rattle.facts.proofs.LeastWays.{fix-ready, fix-found, fix-less, fix-again}
 use Rattle.facts.proofs.least.fix_field.Statement.{statement}
 use Rattle.facts.proofs.least.fix_field.Tie as tie

@@ -3,7 +3,7 @@ use Prim.Native.Nat.{_-_}
 use mathlib.Core.Path.{refl}
 use native.Mathlib.Omega.{arith}
 use borrow.Author.Needs.{needs}
-use Rattle.facts.specs.Needs.{field-places}
+use Rattle.facts.specs.Record.{field-places}
 use Rattle.facts.proofs.Numbered.{Numbered, number-next, numbered-start}
 use Rattle.facts.proofs.record.no_facts.Statement.{statement}
 use Rattle.facts.proofs.record.no_facts.Tie as tie

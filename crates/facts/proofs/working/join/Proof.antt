@@ -3,7 +3,7 @@ use Prim.Native.Nat.{_-_}
 use mathlib.Core.Path.{sym, subst, _∙_}
 use mathlib.Core.Logic.{inl, inr}
 use borrow.Author.Needs.{needs}
-use Rattle.facts.specs.Needs.{field-places}
+use Rattle.facts.specs.Record.{field-places}
 use Rattle.facts.proofs.Joining.{Joining, joining-none, joining-raise, joining-moved, joining-stayed, joining-all}
 use Rattle.facts.proofs.working.join.Statement.{statement}
 use Rattle.facts.proofs.working.join.Tie as tie

@@ -1,6 +1,6 @@
 -- `handle_value` meets its contract: each turn leaves the value as it was, at a smaller handle.
 use borrow.Author.Needs.{needs}
-use Rattle.facts.specs.Needs.{state}
+use Rattle.facts.specs.Record.{state}
 use Rattle.walking.proofs.FollowWays.{Following, follow-start, follow-always, follow-never, at-handle-entry, asks-question, can-decide, follow-open, follow-yes, follow-no, falls-yes, falls-no}
 use Rattle.walking.proofs.handles.handle_value.Statement.{statement}
 use Rattle.walking.proofs.handles.handle_value.Tie as tie
