@@ -30,7 +30,7 @@ use Rattle.terms.specs.Meaning.{Valuation}
 use Rattle.terms.specs.Needs.{FitLimits}
 use Rattle.walking.specs.declared.subject.Subject.the-variants.{Table, Choice}
 use Rattle.operations.proofs.FinishedInStore.{finished-alike}
-use Rattle.store.proofs.Handles.{leaf-stays}
+use Rattle.store.proofs.ByHandles.{leaf-stays}
 use Rattle.store.proofs.SoundFacts.{sound-says}
 use Rattle.store.proofs.Tests.{passes}
 

@@ -3,6 +3,7 @@ use Prim.Native.Nat.{ℕ}
 use mathlib.Core.List.{List, [], _∷_, _++_}
 use lib.IntN.{pos}
 use lib.ListN.{replicate}
+use Rattle.operations.specs.ThreeEqual.{three-equal, last-equal, outer-equal, not-outer, after-case-6}
 use Rattle.cases.specs.Case.{simplify, open-with, build, negate, join, read, write-back, verdict, example, ask-list-gap, simplified, answered, gap-is, Case}
 
 -- S3(1) = S1(2) simplifies to 2 = S2(1): words 2, 65, gap 2.
@@ -46,25 +47,6 @@ abbrev pub case-5-short : Case
 case-5-short = record { start = 9 ∷ 9 ∷ []; calls = open-with 0 [] ∷ []; expected = answered 21 0 (9 ∷ 9 ∷ []) [] ∷ [] }
 
 -- ---- n = 3, list 2 = 1, 3 = 1, 3 = 2
-abbrev pub three-equal : List ℕ
-three-equal = 2 ∷ 1 ∷ 3 ∷ 1 ∷ 3 ∷ 2 ∷ []
-
--- the rule 3 = 2
-abbrev pub last-equal : List ℕ
-last-equal = 2 ∷ 3 ∷ 2 ∷ 0 ∷ []
-
--- the rule 3 = 1
-abbrev pub outer-equal : List ℕ
-outer-equal = 2 ∷ 3 ∷ 1 ∷ 0 ∷ []
-
--- the rule 2 = 1 and 3 = 2 and not 3 = 1
-abbrev pub not-outer : List ℕ
-not-outer = 2 ∷ 2 ∷ 1 ∷ 0 ∷ 2 ∷ 3 ∷ 2 ∷ 0 ∷ 4 ∷ 0 ∷ 1 ∷ 0 ∷ 2 ∷ 3 ∷ 1 ∷ 0 ∷ 3 ∷ 3 ∷ 0 ∷ 0 ∷ 4 ∷ 2 ∷ 4 ∷ 0 ∷ []
-
--- the words after building 3 = 2
-abbrev pub after-case-6 : List ℕ
-after-case-6 = 3 ∷ 3 ∷ 4 ∷ 2 ∷ 1 ∷ 3 ∷ 1 ∷ 3 ∷ 2 ∷ 2 ∷ 1 ∷ 0 ∷ 3 ∷ 1 ∷ 0 ∷ 2 ∷ 0 ∷ 3 ∷ 1 ∷ 2 ∷ 4 ∷ []
-
 -- Store of 21 words. Building 3 = 2 gives handle 5 and the words 3 3 4, 2 1 3 1 3 2, 2 1 0, 3 1 0, 2 0 3, 1 2 4. Case 7: then building 3 = 1
 -- gives handle 2; used stays 4. Case 8: 2 = 1 and 3 = 2 and not 3 = 1 is handle 0.
 abbrev pub cases-6-to-8 : Case

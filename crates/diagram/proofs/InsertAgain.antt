@@ -11,9 +11,9 @@ use Rattle.store.specs.Outcome.{outcome}
 use Rattle.store.specs.Tree.{Tree, tree}
 use Rattle.diagram.specs.declared.placing.Placed.the-variants.{At}
 use Rattle.diagram.specs.Insert.{place-entry, leaf-handle, insert}
-use Rattle.store.proofs.Handles.{by-handles}
+use Rattle.store.proofs.ByHandles.{by-handles}
 use Rattle.store.specs.SoundParts.{Sound}
-use Rattle.store.proofs.SoundTree.{falling, tree-leaf, tree-node, same-tree}
+use Rattle.store.proofs.SoundTree.{falling, tree-leaf, tree-node, one-handle}
 use Rattle.terms.proofs.Cases.{by-eq}
 use Rattle.diagram.proofs.EntryPlaced.{place-cases}
 use Rattle.store.proofs.StoreGrown.{tree-at}
@@ -24,7 +24,7 @@ leaf-again h l = by-eq (λ t. leaf-handle t ≡ h) h 1 (λ d. sym d) (λ d. omeg
 module _ {limits : Limits} {s : List ℕ} (snd : Sound limits s) where
   entry-again : (i : ℕ) → i < used s → place-entry limits s (entry s i) ≡ outcome (At (i + leaves)) s
   entry-again i h = place-cases limits s (entry s i) (λ o. o ≡ outcome (At (i + leaves)) s)
-      (λ j l d. ap (λ g. outcome (At g) s) (same-tree snd (j + leaves) (i + leaves) (omega arith) (omega arith) (tree-at snd j l d ∙ sym (tree-node snd i h))))
+      (λ j l d. ap (λ g. outcome (At g) s) (one-handle snd (j + leaves) (i + leaves) (omega arith) (omega arith) (tree-at snd j l d ∙ sym (tree-node snd i h))))
       (λ a _. absurd (a i h refl))
       (λ a _. absurd (a i h refl))
 

@@ -19,9 +19,9 @@ use Rattle.diagram.specs.declared.placing.Placed.the-variants.{At, Full}
 use Rattle.diagram.specs.Finish.{same-tree}
 use Rattle.diagram.specs.Insert.{place-entry, then-place, leaf-handle, insert, some-below, is-stored, is-among, collect, new-trees}
 use Rattle.diagram.specs.Inserted.{GrowsBy}
-use Rattle.store.proofs.Handles.{by-handle}
+use Rattle.store.proofs.ByHandles.{by-handle}
 use Rattle.store.specs.SoundParts.{MayStand, Sound}
-use Rattle.store.proofs.SoundTree.{falling, tree-leaf, tree-node, same-tree as one-handle}
+use Rattle.store.proofs.SoundTree.{falling, tree-leaf, tree-node, one-handle}
 use Rattle.store.proofs.StoreWords.{questions-agree, tree-agrees}
 use Rattle.terms.proofs.Cases.{by-test}
 use Rattle.diagram.proofs.EntryPlaced.{place-cases}

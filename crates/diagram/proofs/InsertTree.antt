@@ -18,7 +18,7 @@ use Rattle.store.specs.Tree.{Tree, leaf, node, tree, Ascending, Reduced}
 use Rattle.terms.specs.declared.limits.Limits.{Limits}
 use Rattle.diagram.proofs.EntryPlaced.{place-cases}
 use Rattle.store.proofs.EntryAdded.{used-added, next-in}
-use Rattle.store.proofs.Handles.{by-handle}
+use Rattle.store.proofs.ByHandles.{by-handle}
 use Rattle.store.proofs.SoundTree.{falling, tree-node, tree-never, tree-always}
 use Rattle.store.proofs.StoreGrown.{grown-same, grown-on, tree-of, tree-at, grown-added, tree-added}
 use Rattle.store.proofs.StoreWords.{fields-agree, questions-agree, question-agrees, tree-agrees, meaning-agrees}

@@ -6,31 +6,16 @@ use mathlib.Core.Bool.{Bool, true, false, not}
 use mathlib.Core.List.{List, [], _∷_, map}
 use lib.ListN.{length, replicate}
 use Rattle.operations.specs.declared.answer.Built.the-variants.{Handle}
+use Rattle.operations.specs.Between.{call, reopen, run-steps}
 use Rattle.operations.specs.BooleanLaws.{letter, not-of, BooleanLaw, is-letter, is-not, meanwhile}
 use Rattle.operations.specs.Handles.{build, negate, answer-to, pair, Books, opened-books, after, run, In, newest}
+use Rattle.operations.specs.ThreeEqual.{three-equal, last-equal, outer-equal, not-outer, after-case-6}
 use Rattle.store.specs.declared.answer.Opened.the-variants.{Accepted}
 use Rattle.store.specs.Open.{opening}
 use Rattle.tables.specs.Rows.{rule-meaning}
 use Rattle.terms.specs.Limits.{store-limits}
 use Rattle.operations.proofs.Computing.{operations-compute}
 use Rattle.operations.proofs.FormulaHandles.{boolean-law}
-
--- n = 3, list 2 = 1, 3 = 1, 3 = 2; the rules 3 = 2, 3 = 1, and 2 = 1 and 3 = 2 and not 3 = 1
-abbrev three-equal : List ℕ
-three-equal = 2 ∷ 1 ∷ 3 ∷ 1 ∷ 3 ∷ 2 ∷ []
-
-abbrev last-equal : List ℕ
-last-equal = 2 ∷ 3 ∷ 2 ∷ 0 ∷ []
-
-abbrev outer-equal : List ℕ
-outer-equal = 2 ∷ 3 ∷ 1 ∷ 0 ∷ []
-
-abbrev not-outer : List ℕ
-not-outer = 2 ∷ 2 ∷ 1 ∷ 0 ∷ 2 ∷ 3 ∷ 2 ∷ 0 ∷ 4 ∷ 0 ∷ 1 ∷ 0 ∷ 2 ∷ 3 ∷ 1 ∷ 0 ∷ 3 ∷ 3 ∷ 0 ∷ 0 ∷ 4 ∷ 2 ∷ 4 ∷ 0 ∷ []
-
--- "the words 3 3 4, 2 1 3 1 3 2, 2 1 0, 3 1 0, 2 0 3, 1 2 4"
-abbrev after-case-6 : List ℕ
-after-case-6 = 3 ∷ 3 ∷ 4 ∷ 2 ∷ 1 ∷ 3 ∷ 1 ∷ 3 ∷ 2 ∷ 2 ∷ 1 ∷ 0 ∷ 3 ∷ 1 ∷ 0 ∷ 2 ∷ 0 ∷ 3 ∷ 1 ∷ 2 ∷ 4 ∷ []
 
 -- the words and the ledger after the three builds
 abbrev three-builds : Books
@@ -40,6 +25,15 @@ three-builds = run store-limits (opened-books 3 three-equal 21) (build last-equa
 pub run-of-cases : (three-builds .words ≡ after-case-6) × (map (λ p. p .handle) (three-builds .ledger) ≡ 0 ∷ 2 ∷ 5 ∷ 1 ∷ 0 ∷ [])
 unfolding operations-compute
 run-of-cases = (refl, refl)
+
+-- The same with openings between the calls: an accepted one begins the books anew, and one that is refused, for its 17 fields, leaves them.
+abbrev builds-between : Books
+builds-between = run-steps store-limits (opened-books 3 three-equal 21)
+    (call (build outer-equal) ∷ reopen 3 three-equal ∷ call (build last-equal) ∷ reopen 17 [] ∷ call (build outer-equal) ∷ call (build not-outer) ∷ [])
+
+pub run-between : (builds-between .words ≡ after-case-6) × (map (λ p. p .handle) (builds-between .ledger) ≡ 0 ∷ 2 ∷ 5 ∷ 1 ∷ 0 ∷ [])
+unfolding operations-compute run-steps
+run-between = (refl, refl)
 
 -- ---- not (not x) and x
 -- x is 3 = 2, handle 5, in a store with room for eight entries

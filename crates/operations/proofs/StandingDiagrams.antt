@@ -20,7 +20,7 @@ use Rattle.store.specs.Tree.{tree-truth}
 use Rattle.terms.specs.declared.limits.Limits.{Limits}
 use Rattle.terms.specs.Meaning.{Valuation, truth}
 use Rattle.diagram.proofs.FinishTruth.{finish-constant}
-use Rattle.store.proofs.SoundTree.{meaning-is-tree, same-tree, tree-never, tree-always}
+use Rattle.store.proofs.SoundTree.{meaning-is-tree, one-handle, tree-never, tree-always}
 use Rattle.operations.proofs.FinishedInStore.{finished-truth, finished-alike}
 use Rattle.operations.proofs.RestsOn.{rests-alike, rests-constant}
 
@@ -70,7 +70,7 @@ module _ {limits : Limits} {s : List ℕ} (snd : Sound limits s) where
   pub stands-exact : {g h : ℕ} {means others : Valuation → Bool} → Stands s g means → Stands s h others → (g ≡ h) ↔ ((v : Valuation) → means v ≡ others v)
   stands-exact {g} {h} {means} {others} k l = (
     λ e v. sym (stands-means k v) ∙ ap (λ x. meaning s x v) e ∙ stands-means l v,
-    λ e. same-tree snd g h (k .handle-in) (l .handle-in) (k .diagram ∙ finished-alike s means others e ∙ sym (l .diagram)),
+    λ e. one-handle snd g h (k .handle-in) (l .handle-in) (k .diagram ∙ finished-alike s means others e ∙ sym (l .diagram)),
   )
 
   pub never-stands : Stands s 0 (λ _. false)

@@ -7,3 +7,4 @@ pub mod Rests
 pub mod Later
 pub mod Stands
 pub mod Kept
+pub mod ThreeEqual

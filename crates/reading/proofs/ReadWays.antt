@@ -27,7 +27,7 @@ use Rattle.terms.specs.declared.term.Term.{Term}
 use Rattle.terms.specs.Limits.{most-count}
 use Rattle.terms.specs.Meaning.{count, value, truth}
 use Rattle.terms.specs.Needs.{FitLimits}
-use Rattle.store.proofs.Handles.{leaf-stays, by-handle}
+use Rattle.store.proofs.ByHandles.{leaf-stays, by-handle}
 use Rattle.store.proofs.SoundFacts.{sound-says, used-fits}
 use Rattle.store.proofs.SoundList.{sound-question}
 use Rattle.store.proofs.SoundTree.{meaning-entry}

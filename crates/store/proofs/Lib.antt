@@ -1,6 +1,6 @@
 pub mod Tests
 pub mod SoundFacts
-pub mod Handles
+pub mod ByHandles
 pub mod SoundTree
 pub mod TreePaths
 pub mod TreeTruth

@@ -13,7 +13,7 @@ use Rattle.terms.specs.declared.limits.Limits.{Limits}
 use Rattle.terms.specs.declared.term.Field.{Field}
 use Rattle.terms.specs.declared.term.Term.{Term}
 use Rattle.terms.specs.Meaning.{Valuation, count, value, truth}
-use Rattle.store.proofs.Handles.{by-handles, leaf-stays}
+use Rattle.store.proofs.ByHandles.{by-handles, leaf-stays}
 use Rattle.store.proofs.SoundList.{sound-question}
 use Rattle.store.proofs.SoundTree.{falling, meaning-entry}
 use Rattle.terms.proofs.Cases.{by-eq}

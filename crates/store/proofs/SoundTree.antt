@@ -15,7 +15,7 @@ use Rattle.store.specs.Meaning.{follow, meaning}
 use Rattle.store.specs.Tree.{leaf, node, tree, tree-truth, Ascending, Reduced}
 use Rattle.terms.proofs.Cases.{by-test, by-eq}
 use Rattle.store.specs.SoundParts.{Sound}
-use Rattle.store.proofs.Handles.{Falling, by-handle, by-handles, leaf-within, tree-entry, leaf-stays, follow-entry}
+use Rattle.store.proofs.ByHandles.{Falling, by-handle, by-handles, leaf-within, tree-entry, leaf-stays, follow-entry}
 
 pub tree-leaf : (s : List ℕ) (h : ℕ) → h < leaves → tree s h ≡ leaf (eqb h 1)
 tree-leaf s h = leaf-within h s h
@@ -110,8 +110,8 @@ module _ {limits : Limits} {s : List ℕ} (snd : Sound limits s) where
       ap (λ x. x + leaves) (entry-alike i j k l (λ d. record { question = q d; yes = p d; no = r d })))
 
   -- Two handles with one tree are the same.
-  pub same-tree : (g h : ℕ) → g < used s + leaves → h < used s + leaves → tree s g ≡ tree s h → g ≡ h
-  same-tree g h k = by-handles falling OneHandle
+  pub one-handle : (g h : ℕ) → g < used s + leaves → h < used s + leaves → tree s g ≡ tree s h → g ≡ h
+  one-handle g h k = by-handles falling OneHandle
       (λ g k. by-handle (used s) (λ h. tree s g ≡ tree s h → g ≡ h) (λ h l. leaf-alike g h k l) (λ i l e. absurd (leaf-unlike g i k l e)))
       one-entry g k h
 
@@ -120,4 +120,4 @@ module _ {limits : Limits} {s : List ℕ} (snd : Sound limits s) where
   tree-reduced = by-handles falling (λ h. Reduced (tree s h)) (λ h l. rw (tree-leaf s h l) tt)
       (λ i h y n.
       let k = snd .entry-kept i h in
-      rw (tree-node i h) (λ e. k .differ (same-tree (entry s i .yes) (entry s i .no) (omega (arith, k .yes-below)) (omega (arith, k .no-below)) e), y, n))
+      rw (tree-node i h) (λ e. k .differ (one-handle (entry s i .yes) (entry s i .no) (omega (arith, k .yes-below)) (omega (arith, k .no-below)) e), y, n))

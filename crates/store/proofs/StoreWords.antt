@@ -18,7 +18,7 @@ use Rattle.store.specs.Layout.{heading-length, field-count, question-cou
 use Rattle.store.specs.Meaning.{follow, meaning}
 use Rattle.store.specs.Tree.{node, tree-within, tree}
 use Rattle.terms.proofs.Cases.{by-test}
-use Rattle.store.proofs.Handles.{Falling, by-handle, leaf-within, node-within, leaf-stays, follow-entry}
+use Rattle.store.proofs.ByHandles.{Falling, by-handle, leaf-within, node-within, leaf-stays, follow-entry}
 
 -- a word of the list, as a word of the store
 pub list-word : (s : List ℕ) (k : ℕ) → k < 2 * question-count s → getD (list-words s) k 0 ≡ getD s (heading-length + k) 0

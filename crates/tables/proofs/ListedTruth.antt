@@ -20,7 +20,7 @@ use Rattle.terms.proofs.SimplifyTruth.{simplify-truth}
 
 same-equation-says : (p q : Equation) → same-equation p q ≡ true → p ≡ q
 same-equation-says p q t =
-    numbers.same-equation p q
+    numbers.equations-equal p q
     (eqb-true _ _ (passes (eqb (p .left .field .0) (q .left .field .0)) (λ f. rw f at t)))
     (eqb-true _ _ (passes (eqb (p .left .steps .0) (q .left .steps .0)) (λ f. simp (f, and-false) at t)))
     (eqb-true _ _ (passes (eqb (p .right .field .0) (q .right .field .0)) (λ f. simp (f, and-false) at t)))

@@ -16,7 +16,7 @@ use Rattle.terms.specs.Meaning.{Valuation, count, value, truth}
 use Rattle.terms.specs.Form.{SimplifiedForm}
 use Rattle.terms.specs.Words.{field}
 use Rattle.terms.proofs.Cases.{by-eq}
-use Rattle.terms.proofs.Numbers.{same-equation}
+use Rattle.terms.proofs.Numbers.{equations-equal}
 use Rattle.terms.proofs.SimplifyForm.{smaller-right, bare-side, bare-left}
 
 -- larger than all four step counts together
@@ -70,7 +70,7 @@ module _ (p q : Equation) (sp : SimplifiedForm p) (sq : SimplifiedForm q) where
       (omega (arith, ap (λ n. count v (field n)) x, count-left, count-other (q .right .field) (λ i. omega (arith, smaller-right q sq)), enough)) in
       let s : p .right .steps .0 + q .left .steps .0 ≡ q .right .steps .0 + p .left .steps .0 =
       omega (arith, ap (λ n. count v (field n)) x, count-left, count-other (q .right .field) (λ i. omega (arith, smaller-right q sq)), enough, ap (λ n. n * m) y) in
-      same-equation p q (sym x) (omega (arith, bare-side p sp, bare-side q sq)) y (omega (arith, bare-side p sp, bare-side q sq))
+      equations-equal p q (sym x) (omega (arith, bare-side p sp, bare-side q sq)) y (omega (arith, bare-side p sp, bare-side q sq))
 
   other-left : q .left .field .0 ≢ p .left .field .0 → value v (q .left) ≡ value v (q .right) → ⊥
   unfolding unit

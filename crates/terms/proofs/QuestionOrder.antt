@@ -12,7 +12,7 @@ use lib.ListN.{length}
 use Rattle.terms.specs.declared.term.Equation.{Equation}
 use Rattle.terms.specs.Order.{lex, Order, fields-first, before, StrictTotal}
 use Rattle.terms.proofs.Cases.{by-eq, by-lt}
-use Rattle.terms.proofs.Numbers.{same-equation}
+use Rattle.terms.proofs.Numbers.{equations-equal}
 
 -- the first numbers decide, or the rest does
 pub lex-less : (x y : ℕ) (xs ys : List ℕ) → x < y → lex (x ∷ xs) (y ∷ ys) ≡ true
@@ -72,4 +72,4 @@ strict-total order same tells = record {
 }
 
 pub fields-first-strict-total : StrictTotal (before fields-first)
-fields-first-strict-total = strict-total fields-first (λ p q. refl) (λ p q e. same-equation p q (cc) (cc) (cc) (cc))
+fields-first-strict-total = strict-total fields-first (λ p q. refl) (λ p q e. equations-equal p q (cc) (cc) (cc) (cc))

@@ -18,7 +18,7 @@ use Rattle.terms.specs.declared.term.Equation.{Equation}
 use Rattle.walking.specs.Needs.{Walkable, CanFollow}
 use Rattle.walking.specs.Value.{tree-value, handle-value}
 use Rattle.facts.proofs.HeldFacts.{holds-ready}
-use Rattle.store.proofs.Handles.{Falling, tree-entry}
+use Rattle.store.proofs.ByHandles.{Falling, tree-entry}
 use Rattle.store.proofs.SoundTree.{tree-leaf}
 
 falling : {s : List ℕ} → Walkable s → Falling s (used s)

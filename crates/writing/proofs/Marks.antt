@@ -15,7 +15,7 @@ use Rattle.terms.specs.declared.limits.Limits.{Limits}
 use Rattle.store.specs.Layout.{entry, leaves, used}
 use Rattle.writing.specs.WriteBack.{mark-parts, marks-down, reachable, Reaches, itself, by-yes, by-no}
 use Rattle.terms.proofs.Cases.{by-test}
-use Rattle.store.proofs.Handles.{Falling}
+use Rattle.store.proofs.ByHandles.{Falling}
 use Rattle.store.specs.SoundParts.{Sound}
 use Rattle.store.proofs.SoundTree.{falling}
 

@@ -18,7 +18,7 @@ use Rattle.tables.specs.Rows.{row-truth, row-truths, rule-meaning}
 use Rattle.terms.specs.declared.limits.Limits.{Limits}
 use Rattle.terms.specs.Meaning.{Valuation, truth}
 use Rattle.writing.specs.WriteBack.{reachable, marked-before, row-of, written-rows, written-count}
-use Rattle.store.proofs.Handles.{by-handles, leaf-stays}
+use Rattle.store.proofs.ByHandles.{by-handles, leaf-stays}
 use Rattle.store.proofs.SoundTree.{falling, meaning-entry}
 use Rattle.tables.proofs.RowTruths.{truth-at, truth-stays, shape-at}
 use Rattle.writing.proofs.Marks.{handle-marked, marked-closed}

@@ -1,0 +1,23 @@
+-- The list, the rules and the words of document 01's cases 6 to 8.
+use Prim.Native.Nat.{ℕ}
+use mathlib.Core.List.{List, [], _∷_}
+
+-- n = 3, list 2 = 1, 3 = 1, 3 = 2
+abbrev pub three-equal : List ℕ
+three-equal = 2 ∷ 1 ∷ 3 ∷ 1 ∷ 3 ∷ 2 ∷ []
+
+-- the rule 3 = 2
+abbrev pub last-equal : List ℕ
+last-equal = 2 ∷ 3 ∷ 2 ∷ 0 ∷ []
+
+-- the rule 3 = 1
+abbrev pub outer-equal : List ℕ
+outer-equal = 2 ∷ 3 ∷ 1 ∷ 0 ∷ []
+
+-- the rule 2 = 1 and 3 = 2 and not 3 = 1
+abbrev pub not-outer : List ℕ
+not-outer = 2 ∷ 2 ∷ 1 ∷ 0 ∷ 2 ∷ 3 ∷ 2 ∷ 0 ∷ 4 ∷ 0 ∷ 1 ∷ 0 ∷ 2 ∷ 3 ∷ 1 ∷ 0 ∷ 3 ∷ 3 ∷ 0 ∷ 0 ∷ 4 ∷ 2 ∷ 4 ∷ 0 ∷ []
+
+-- the words after building 3 = 2
+abbrev pub after-case-6 : List ℕ
+after-case-6 = 3 ∷ 3 ∷ 4 ∷ 2 ∷ 1 ∷ 3 ∷ 1 ∷ 3 ∷ 2 ∷ 2 ∷ 1 ∷ 0 ∷ 3 ∷ 1 ∷ 0 ∷ 2 ∷ 0 ∷ 3 ∷ 1 ∷ 2 ∷ 4 ∷ []
