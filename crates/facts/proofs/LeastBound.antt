@@ -140,6 +140,6 @@ module _ (n k : ℕ) (qs : List Equation) (Meets : Valuation → Type 0) (near :
     ]
   ]
 
-  -- "no count exceeds n × (K + 1)"
+  -- "No count exceeds n × (K + 1)"
   pub least-bound : (f : ℕ) → f ≤ n → at v f ≤ n * (k + 1)
   least-bound = elim (climb n) [ inr a ↦ a | inl c ↦ up-to-all v n (n * (k + 1)) c ]

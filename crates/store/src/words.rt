@@ -1,4 +1,4 @@
-// The words of a store, one by one: nothing outside this crate indexes them.
+// The words of a store, one by one. Outside this crate soundness alone indexes them: the list as a slice, and the words after the entries.
 ghost use mathlib.Core.Path.{_≡_};
 ghost use mathlib.Core.List.{_∷_};
 ghost use Prim.Native.Nat.{_+_, _≤_};

@@ -1,4 +1,4 @@
--- The largest numbers of document 01, each in this place alone.
+-- The limits of terms and of stores, each in this place alone.
 use Prim.Native.Nat.{ℕ}
 use Rattle.terms.specs.declared.limits.Limits.{Limits}
 use Rattle.terms.specs.declared.limits.TermLimits.{TermLimits}

@@ -1,4 +1,4 @@
-// The largest numbers of document 01, each in this place alone; the sizes of arrays derive from them.
+// The limits of terms and of stores, each in this place alone; the sizes of arrays derive from them.
 ghost use mathlib.Core.Path.{_≡_};
 ghost use Rattle.terms.specs.Limits as spec;
 use crate::term::Field;

@@ -1,5 +1,5 @@
 -- What a verdict says of a meaning: never, that no choice of counts makes it true; always, that every one does; sometimes, that one does and one
--- doesn't. A refusal says nothing, so it is no verdict on a handle of a sound store.
+-- doesn't. A refusal says what can't be: on a handle of a sound store it is never given.
 use mathlib.Core.Path.{_≡_}
 use mathlib.Core.Bool.{Bool, true, false}
 use Rattle.terms.specs.Meaning.{Valuation}
