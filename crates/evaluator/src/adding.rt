@@ -6,7 +6,7 @@ use crate::calls::Call;
 use crate::calls::call_fault;
 use crate::drawing::draw;
 use crate::drawing::ways_of;
-use crate::entries::room;
+use crate::entries::has_room;
 use crate::layout::questions;
 use crate::layout::used;
 use crate::words::copy;
@@ -15,7 +15,7 @@ use crate::words::copy;
 fn expect_drawn(call: Call, table: &[u32], store: &[u32], words: &mut [u32]) -> Answer {
     let ways = ways_of(call, table, store);
     let handle = draw(words, &ways, 0, 1, questions(store) % 32);
-    if used(words) as usize > room(store) {
+    if !has_room(store, used(words)) {
         copy(store, words);
         return refused(51);
     }

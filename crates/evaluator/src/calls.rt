@@ -1,4 +1,5 @@
 // A call of build, negate, join or choose: its refusal, and the meaning that it is to add.
+use crate::answer::refuse;
 use crate::grid::sheet_of;
 use crate::layout::fields;
 use crate::rules::table_fault;
@@ -51,13 +52,16 @@ pub fn call_fault(call: Call, table: &[u32], store: &[u32]) -> u32 {
     if !is_sound(store) {
         return 22;
     }
-    if call.kind == 2 {
-        return table_fault(store, table);
+    let kind = call.kind;
+    match kind {
+        2 => table_fault(store, table),
+        _ => handles_fault(store, call.a, call.b, call.c),
     }
-    if has_handle(store, call.a) & has_handle(store, call.b) & has_handle(store, call.c) {
-        return 0;
-    }
-    41
+}
+
+fn handles_fault(store: &[u32], a: u32, b: u32, c: u32) -> u32 {
+    let all = has_handle(store, a) & has_handle(store, b) & has_handle(store, c);
+    refuse(0, !all, 41)
 }
 
 // The meaning of a call at a sheet of the grid.

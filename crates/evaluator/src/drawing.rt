@@ -43,19 +43,12 @@ pub fn ways_of(call: Call, table: &[u32], store: &[u32]) -> Ways {
     ways
 }
 
-fn larger(a: u32, b: u32) -> u32 {
-    if a < b {
-        return b;
-    }
-    a
-}
-
 // The handle of an entry with these words, written after the others or where it is already.
 fn add_entry(words: &mut [u32], question: u32, yes: u32, no: u32) -> u32 {
+    let entries = used(words) % 4096;
     let entry = find_entry(words, question, yes, no) % 4096;
-    let entries = larger(used(words), entry + 1);
     put_entry(words, entry, question, yes, no);
-    put(words, 2, entries);
+    put(words, 2, entries + (entry == entries) as u32 % 2);
     entry + 2
 }
 
@@ -70,20 +63,13 @@ fn ask(words: &mut [u32], question: u32, yes: u32, no: u32) -> u32 {
     add_entry(words, question, yes, no)
 }
 
-fn leaf_of(ways: &Ways, way: u32) -> u32 {
-    if way < 256 {
-        return ways[way as usize];
-    }
-    NOTHING
-}
-
 // Adds the entries of the diagram of the ways that begin alike, from question k on: the yes part's first, then the no part's, then its own.
 // Gives its handle, or NOTHING if no sheet answers in these ways. The questions left fall.
 pub fn draw(words: &mut [u32], ways: &Ways, way: u32, k: u32, left: u32) -> u32
     requires { ⌜ k + left < 64 ⌝ }
 {
     if left == 0 {
-        return leaf_of(ways, way);
+        return ways[(way % 256) as usize];
     }
     let yes = draw(words, ways, way % 128 * 2 + 1, k + 1, left - 1);
     let no = draw(words, ways, way % 128 * 2, k + 1, left - 1);

@@ -1,4 +1,4 @@
-// The entries of a store, counted from 0: their words, which of them has given words, and how many fit.
+// The entries of a store, counted from 0: their words, and which of them has given words.
 ghost use Prim.Native.Nat.{_<_};
 use crate::layout::questions;
 use crate::layout::used;
@@ -22,6 +22,14 @@ pub fn yes_of(store: &[u32], entry: u32) -> u32 {
 
 pub fn no_of(store: &[u32], entry: u32) -> u32 {
     word_at(store, entry_place(store, entry) + 2)
+}
+
+// The question number of a handle; a leaf comes after all questions.
+pub fn asked_by(store: &[u32], handle: u32) -> u32 {
+    if handle < 2 {
+        return 21;
+    }
+    question_of(store, handle - 2)
 }
 
 // Writes the three words of an entry, where they fit.
@@ -51,15 +59,7 @@ pub fn find_entry(store: &[u32], question: u32, yes: u32, no: u32) -> u32 {
     entries
 }
 
-// How many entries fit.
-pub fn room(store: &[u32]) -> usize {
-    let heading = entry_place(store, 0);
-    if store.len() < heading {
-        return 0;
-    }
-    let fit = (store.len() - heading) / 3;
-    if fit > 4096 {
-        return 4096;
-    }
-    fit
+// Whether a store has room for so many entries.
+pub fn has_room(store: &[u32], entries: u32) -> bool {
+    (entries <= 4096) & (entry_place(store, entries) <= store.len())
 }

@@ -50,13 +50,10 @@ fn beyond(store: &[u32], k: u32, most: u32) -> bool {
 // Whether the grid is a complete test of the rules over a sound store's list.
 pub fn covers(store: &[u32]) -> bool {
     let n = fields(store);
-    if n > 3 {
-        return false;
-    }
+    let most = most_steps(n);
+    let mut within = n <= 3;
     for i in 0..questions(store) {
-        if beyond(store, i + 1, most_steps(n)) {
-            return false;
-        }
+        within = within & !beyond(store, i + 1, most);
     }
-    true
+    within
 }

@@ -1,4 +1,5 @@
 // Which refusal a list of questions asks for.
+use crate::answer::refuse;
 use crate::layout::field;
 use crate::layout::steps;
 use crate::words::word_at;
@@ -19,30 +20,21 @@ fn order_of(left: u32, right: u32) -> u32 {
 }
 
 // The refusal of a question, given where the one before stands in the order. A question's left field is above 0, so the first is above 0.
-fn question_fault(n: u32, left: u32, right: u32, before: u32) -> u32 {
-    if bad_term(n, left) | bad_term(n, right) {
-        return 14;
-    }
-    if !is_question(left, right) {
-        return 15;
-    }
-    if order_of(left, right) <= before {
-        return 16;
-    }
-    0
+fn question_fault(fault: u32, n: u32, left: u32, right: u32, before: u32) -> u32 {
+    let term = refuse(fault, bad_term(n, left) | bad_term(n, right), 14);
+    let form = refuse(term, !is_question(left, right), 15);
+    refuse(form, order_of(left, right) <= before, 16)
 }
 
 // The first refusal among the questions of a list.
 pub fn questions_fault(n: u32, list: &[u32]) -> u32 {
+    let mut fault = 0;
     let mut before = 0;
     for i in 0..list.len() / 2 {
         let left = word_at(list, 2 * i);
         let right = word_at(list, 2 * i + 1);
-        let fault = question_fault(n, left, right, before);
-        if fault != 0 {
-            return fault;
-        }
+        fault = question_fault(fault, n, left, right, before);
         before = order_of(left, right);
     }
-    0
+    fault
 }

@@ -1,24 +1,16 @@
 // What opening must answer, and the words that it must leave.
+use crate::answer::refuse;
 use crate::lists::questions_fault;
 use crate::words::copy;
 use crate::words::word_at;
 
 // The refusal of opening a store of so many words.
 fn open_fault(n: u32, list: &[u32], length: usize) -> u32 {
-    if n > 16 {
-        return 11;
-    }
-    if list.len() % 2 == 1 {
-        return 12;
-    }
-    if list.len() > 40 {
-        return 13;
-    }
-    let fault = questions_fault(n, list);
-    if (fault == 0) & (length < 3 + list.len()) {
-        return 21;
-    }
-    fault
+    let fields = refuse(0, n > 16, 11);
+    let odd = refuse(fields, list.len() % 2 == 1, 12);
+    let many = refuse(odd, list.len() > 40, 13);
+    let fault = refuse(many, true, questions_fault(n, list));
+    refuse(fault, length < 3 + list.len(), 21)
 }
 
 // The heading of a store that has just been opened, and its list of at most 20 questions.

@@ -1,4 +1,5 @@
 // Which refusal a rule table asks for.
+use crate::answer::refuse;
 use crate::layout::cell;
 use crate::layout::field;
 use crate::layout::fields;
@@ -23,12 +24,11 @@ fn asks(store: &[u32], k: u32, a: u32, b: u32) -> bool {
 }
 
 fn on_list(store: &[u32], a: u32, b: u32) -> bool {
+    let mut listed = false;
     for i in 0..questions(store) {
-        if asks(store, i + 1, a, b) {
-            return true;
-        }
+        listed = listed | asks(store, i + 1, a, b);
     }
-    false
+    listed
 }
 
 // Whether zero is to have more steps than a count has: never, since no count is below zero.
@@ -43,13 +43,8 @@ fn is_settled(a: u32, b: u32) -> bool {
 
 fn equation_fault(store: &[u32], a: u32, b: u32) -> u32 {
     let n = fields(store);
-    if bad_term(n, a) | bad_term(n, b) {
-        return 35;
-    }
-    if is_settled(a, b) | on_list(store, a, b) {
-        return 0;
-    }
-    36
+    let fault = refuse(0, bad_term(n, a) | bad_term(n, b), 35);
+    refuse(fault, !(is_settled(a, b) | on_list(store, a, b)), 36)
 }
 
 // A column that a kind uses refers to a lower row; one that it doesn't use is 0.
@@ -68,35 +63,27 @@ fn row_fault(store: &[u32], table: &[u32], r: u32) -> u32 {
     let kind = cell(table, r, 0);
     let a = cell(table, r, 1);
     let b = cell(table, r, 2);
-    if bad_row(r, kind, a, b, cell(table, r, 3)) {
-        return 34;
-    }
-    if kind == 2 {
-        return equation_fault(store, a, b);
-    }
-    0
+    let fault = refuse(0, bad_row(r, kind, a, b, cell(table, r, 3)), 34);
+    refuse(fault, kind == 2, equation_fault(store, a, b))
 }
 
+// The first refusal among the rows.
 fn rows_fault(store: &[u32], table: &[u32], rows: u32) -> u32 {
+    let mut fault = 0;
     for r in 0..rows {
-        let fault = row_fault(store, table, r);
-        if fault != 0 {
-            return fault;
-        }
+        fault = refuse(fault, true, row_fault(store, table, r));
     }
-    0
+    fault
 }
 
 pub fn table_fault(store: &[u32], table: &[u32]) -> u32 {
     let length = table.len();
-    if length == 0 {
-        return 31;
-    }
-    if length % 4 != 0 {
-        return 32;
-    }
-    if length > 1024 {
-        return 33;
-    }
-    rows_fault(store, table, (length / 4) as u32)
+    let none = refuse(0, length == 0, 31);
+    let odd = refuse(none, length % 4 != 0, 32);
+    let fault = refuse(odd, length > 1024, 33);
+    refuse(
+        fault,
+        true,
+        rows_fault(store, table, (length / 4 % 257) as u32),
+    )
 }

@@ -13,14 +13,11 @@ fn wide(count: u16) -> u32
     count as u32
 }
 
-// A field's count: field 0 stands for zero, and field 1 is the sheet's first.
-fn count(sheet: &[u16], number: u32) -> u32
+// The count of a term's field: field 1 is the sheet's first, and field 0, which stands for zero, lies beyond the end.
+fn count(sheet: &[u16], term: u32) -> u32
     ensures { λ r. ⌜ r < 65536 ⌝ }
 {
-    if number == 0 {
-        return 0;
-    }
-    let place = (number - 1) as usize;
+    let place = ((term % 32 + 31) % 32) as usize;
     if place < sheet.len() {
         return wide(sheet[place]);
     }
@@ -28,7 +25,7 @@ fn count(sheet: &[u16], number: u32) -> u32
 }
 
 fn value(sheet: &[u16], term: u32) -> u32 {
-    count(sheet, term % 32) + term / 32
+    count(sheet, term) + term / 32
 }
 
 pub fn holds(sheet: &[u16], left: u32, right: u32) -> bool {

@@ -1,4 +1,4 @@
-// Words at places that may not be there.
+// Words at places that may not be there, and parts of slices that may be shorter.
 
 // The word at a place, 0 beyond the end.
 pub fn word_at(s: &[u32], place: usize) -> u32 {
@@ -14,14 +14,17 @@ pub fn put(s: &mut [u32], place: usize, word: u32) {
     }
 }
 
-// The first words or counts of a slice, or all if it has fewer.
-pub fn first_words(s: &[u32], count: usize) -> &[u32] {
-    if count < s.len() {
-        return &s[0..count];
+// The words from a place up to another, all of them if they are not so many.
+pub fn part(s: &[u32], from: usize, to: usize) -> &[u32] {
+    if to <= s.len() {
+        if from <= to {
+            return &s[from..to];
+        }
     }
     s
 }
 
+// The first counts of a sheet, all of them if they are not so many.
 pub fn first_counts(s: &[u16], count: usize) -> &[u16] {
     if count < s.len() {
         return &s[0..count];
@@ -38,10 +41,17 @@ pub fn copy(from: &[u32], to: &mut [u32]) {
 
 // Whether a slice's words are the first ones of another.
 pub fn same_words(s: &[u32], t: &[u32]) -> bool {
+    let mut same = true;
     for i in 0..s.len() {
-        if word_at(s, i) != word_at(t, i) {
-            return false;
-        }
+        same = same & (s[i] == word_at(t, i));
     }
-    true
+    same
+}
+
+pub fn all_are(s: &[u32], word: u32) -> bool {
+    let mut all = true;
+    for i in 0..s.len() {
+        all = all & (s[i] == word);
+    }
+    all
 }

@@ -1,113 +1,70 @@
-// One call each: a line with the case, the call with its arguments, and after a colon what it answers.
-use crate::printing::answer;
-use crate::printing::call;
-use crate::printing::counts;
-use crate::printing::line;
-use crate::printing::number;
-use crate::printing::signed;
+// The script: a line for each call, with its case, its name and its arguments; lines that lend a store or a slice for an answer; and remarks.
+use crate::asking::example;
+use crate::asking::read;
+use crate::asking::simplify;
+use crate::asking::verdict;
+use crate::asking::write_back;
+use crate::changing::change;
+use crate::lending::Lent;
+use crate::lending::lend_out;
+use crate::lending::lend_store;
+use crate::lending::nothing_lent;
+use crate::lines::Numbers;
+use crate::lines::byte_at;
+use crate::lines::find;
+use crate::lines::numbers_of;
 use crate::printing::text;
-use crate::printing::word;
-use crate::printing::words;
-use operations::Built;
+use evaluator::part;
 
-pub fn open(case: &[u8], n: u32, list: &[u32], store: &mut [u32]) {
-    call(case, b"open");
-    word(n);
-    words(list);
-    answer(store::open_number(store::open(n, list, store)), 0);
-    words(store);
-    line();
+// A call that leaves the store as it is, by the first letter of its name.
+fn ask(lent: Lent, name: u8, numbers: Numbers) {
+    let lent_words = lent.words;
+    let store = part(&lent_words, 0, lent.length);
+    let words = numbers.words;
+    let handle = words[0];
+    match name {
+        b'v' => verdict(store, handle),
+        b'r' => read(store, numbers),
+        b'e' => example(store, handle, lent.out),
+        b'w' => write_back(store, handle, lent.out),
+        _ => simplify(handle, words[1]),
+    }
 }
 
-// What a call that may add entries answered, with the store afterwards.
-fn built(b: Built, store: &[u32]) {
-    answer(building::built_number(b), building::built_result(b));
-    words(store);
-    line();
+// Any call.
+fn call(lent: Lent, name: u8, numbers: Numbers) -> Lent {
+    match name {
+        b'o' | b'b' | b'n' | b'j' | b'c' => return change(lent, name, numbers),
+        _ => ask(lent, name, numbers),
+    }
+    lent
 }
 
-pub fn build(case: &[u8], table: &[u32], store: &mut [u32]) {
-    call(case, b"build");
-    words(table);
-    built(building::build(table, store), store);
+// A line with a call: its case goes up to the first space.
+fn run_call(lent: Lent, line: &[u8]) -> Lent {
+    let space = find(line, 0, b' ');
+    let name = byte_at(line, space + 1);
+    text(line);
+    let after = call(lent, name, numbers_of(&line[space..line.len()]));
+    text(b"\n");
+    after
 }
 
-// A table too long for a line: its number of rows.
-pub fn build_rows(case: &[u8], table: &[u32], store: &mut [u32]) {
-    call(case, b"build");
-    number(table.len() as u64 / 4);
-    text(b" rows");
-    built(building::build(table, store), store);
+fn run_line(lent: Lent, line: &[u8]) -> Lent {
+    match byte_at(line, 0) {
+        0 | b'#' => lent,
+        b's' => lend_store(lent, numbers_of(line)),
+        b'o' => lend_out(lent, numbers_of(line)),
+        _ => run_call(lent, line),
+    }
 }
 
-pub fn negate(case: &[u8], handle: u32, store: &mut [u32]) {
-    call(case, b"negate");
-    word(handle);
-    built(building::negate(handle, store), store);
-}
-
-pub fn join(case: &[u8], a: u32, b: u32, store: &mut [u32]) {
-    call(case, b"join");
-    word(a);
-    word(b);
-    built(building::join(a, b, store), store);
-}
-
-pub fn choose(case: &[u8], a: u32, b: u32, c: u32, store: &mut [u32]) {
-    call(case, b"choose");
-    word(a);
-    word(b);
-    word(c);
-    built(building::choose(a, b, c, store), store);
-}
-
-pub fn verdict(case: &[u8], store: &[u32], handle: u32) {
-    call(case, b"verdict");
-    word(handle);
-    let v = verdicts::verdict_of(store, handle);
-    answer(verdicts::verdict_number(v), verdicts::verdict_result(v));
-    line();
-}
-
-pub fn example(case: &[u8], store: &[u32], handle: u32, out: &mut [u16]) {
-    call(case, b"example");
-    word(handle);
-    answer(
-        examples::example_number(examples::example_of(store, handle, out)),
-        0,
-    );
-    counts(out);
-    line();
-}
-
-pub fn read(case: &[u8], store: &[u32], handle: u32, sheet: &[u16]) {
-    call(case, b"read");
-    word(handle);
-    counts(sheet);
-    let r = sheets::read(store, handle, sheet);
-    answer(sheets::read_number(r), sheets::read_result(r));
-    line();
-}
-
-pub fn write_back(case: &[u8], store: &[u32], handle: u32, out: &mut [u32]) {
-    call(case, b"write_back");
-    word(handle);
-    let w = tables::write_back(store, handle, out);
-    answer(tables::written_number(w), tables::written_result(w));
-    words(out);
-    line();
-}
-
-pub fn simplify(case: &[u8], left: u32, right: u32) {
-    call(case, b"simplify");
-    word(left);
-    word(right);
-    text(b":");
-    let a = terms::answer_of(terms::simplify(left, right));
-    word(a.number);
-    word(a.result);
-    word(a.left);
-    word(a.right);
-    signed(a.gap);
-    line();
+pub fn run(script: &[u8]) {
+    let mut lent = nothing_lent();
+    let mut at = 0;
+    while at < script.len() {
+        let end = find(script, at, b'\n');
+        lent = run_line(lent, &script[at..end]);
+        at = end + 1;
+    }
 }

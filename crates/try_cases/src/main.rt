@@ -1,20 +1,16 @@
-// Runs document 01's cases and prints what each call answers, a line for each call: the case, the call with its arguments, and after a
-// colon the answer's numbers.
+// Runs document 01's cases, which stand on standard input, and prints what each call answers: the line of the call, and after a colon the
+// answer's numbers.
+mod asking;
 mod calls;
-mod diagrams;
-mod openings;
+mod changing;
+mod lending;
+mod lines;
 mod printing;
-mod rows;
-mod rules;
-mod simplifying;
+
+use libc::STDIN_FILENO;
 
 fn main() {
-    simplifying::first_cases();
-    simplifying::edges();
-    openings::openings();
-    diagrams::neither();
-    rules::starred();
-    rules::not_starred();
-    openings::most_questions();
-    diagrams::hostile();
+    let mut text = [0u8; 8192];
+    let end = io::read_full(STDIN_FILENO, &mut text);
+    calls::run(&text[..end]);
 }

@@ -1,13 +1,17 @@
-// Words, counts and the parts of a line, on standard output.
+// Answers, words and counts, on standard output.
 use libc::STDOUT_FILENO;
 
 pub fn text(t: &[u8]) {
     io::write_all(STDOUT_FILENO, t);
 }
 
-pub fn number(n: u64) {
+fn number(n: u64) {
     text(b" ");
     io::print_decimal(STDOUT_FILENO, n);
+}
+
+pub fn word(n: u32) {
+    number(n as u64);
 }
 
 pub fn signed(z: i32) {
@@ -19,20 +23,16 @@ pub fn signed(z: i32) {
     }
 }
 
-pub fn word(n: u32) {
-    number(n as u64);
-}
-
-pub fn count(n: u16) {
-    number(n as u64);
-}
-
 // The words of a slice, after a bar.
 pub fn words(list: &[u32]) {
     text(b" |");
     for i in 0..list.len() {
         word(list[i]);
     }
+}
+
+fn count(n: u16) {
+    word(n as u32);
 }
 
 pub fn counts(sheet: &[u16]) {
@@ -42,20 +42,9 @@ pub fn counts(sheet: &[u16]) {
     }
 }
 
-// The beginning of a line: the case and the call.
-pub fn call(case: &[u8], name: &[u8]) {
-    text(case);
-    text(b" ");
-    text(name);
-}
-
-// Its end: number and result.
-pub fn answer(number_of: u32, result: u32) {
+// Number and result, after a colon.
+pub fn answer(a: sheet::Answer) {
     text(b":");
-    word(number_of);
-    word(result);
-}
-
-pub fn line() {
-    text(b"\n");
+    word(a.number);
+    word(a.result);
 }

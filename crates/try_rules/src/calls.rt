@@ -16,7 +16,7 @@ use evaluator::differences;
 use evaluator::expect_added;
 use evaluator::fields;
 use evaluator::first_counts;
-use evaluator::first_words;
+use evaluator::part;
 use evaluator::same_words;
 use evaluator::sheet_of;
 use evaluator::sheets_of;
@@ -31,21 +31,23 @@ use sheet::sheet_read;
 // Any handle of the store, now and then one that it has not.
 pub fn throw_handle(seed: u64, store: &[u32]) -> Thrown {
     let handles = used(store) % 4097 + 2;
-    let way = throw(seed, 40);
-    if way.number > 1 {
-        return throw(way.seed, handles);
-    }
-    if way.number == 1 {
-        return Thrown {
+    let thrown = throw(seed, 40);
+    let way = thrown.number;
+    match way {
+        0 => throw_beyond(thrown.seed, handles),
+        1 => Thrown {
             number: 4294967295,
-            seed: way.seed,
-        };
+            seed: thrown.seed,
+        },
+        _ => throw(thrown.seed, handles),
     }
-    let more = throw(way.seed, 3);
-    Thrown {
-        number: handles + more.number,
-        seed: more.seed,
-    }
+}
+
+// One of the next handles that would be there.
+fn throw_beyond(seed: u64, handles: u32) -> Thrown {
+    let mut thrown = throw(seed, 3);
+    thrown.number = handles % 8192 + thrown.number;
+    thrown
 }
 
 // A call with a table for it, and the seed after both.
@@ -130,7 +132,7 @@ fn try_next(mut run: Run, store: &mut [u32]) -> Run {
     try_call(
         run,
         next.call,
-        first_words(&words, table.length as usize),
+        part(&words, 0, table.length as usize),
         store,
     )
 }

@@ -11,17 +11,14 @@ pub fn throw(seed: u64, bound: u32) -> Thrown
     ensures { λ r. ⌜ r .number ≤ bound ⌝ }
 {
     let next = seed % 2147483648 * 1103515245 + 12345;
+    if bound == 0 {
+        return Thrown {
+            number: 0,
+            seed: next % 2147483648,
+        };
+    }
     Thrown {
-        number: below((next / 65536 % 32768) as u32, bound),
+        number: (next / 65536 % 32768) as u32 % bound,
         seed: next % 2147483648,
     }
-}
-
-fn below(number: u32, bound: u32) -> u32
-    ensures { λ r. ⌜ r ≤ bound ⌝ }
-{
-    if bound == 0 {
-        return 0;
-    }
-    number % bound
 }

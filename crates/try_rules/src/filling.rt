@@ -1,8 +1,9 @@
 // Hand-made sound stores over the questions 1 = 0 to 1 = S19(0), with many entries.
-use evaluator::first_words;
+ghost use Prim.Native.Nat.{_<_};
+use evaluator::asked_by;
+use evaluator::part;
 use evaluator::put;
 use evaluator::put_entry;
-use evaluator::question_of;
 use evaluator::write_opened;
 
 // The words of a store with 20 questions and room for 4,096 entries, and twenty more, so that the limit and not the length binds.
@@ -19,7 +20,7 @@ pub fn steps_list() -> [u32; 42] {
 
 // The heading and the list, with so many entries used.
 fn write_heading(store: &mut [u32], used: u32) {
-    write_opened(1, first_words(&steps_list(), 40), store);
+    write_opened(1, part(&steps_list(), 0, 40), store);
     put(store, 2, used);
 }
 
@@ -27,19 +28,12 @@ fn write_heading(store: &mut [u32], used: u32) {
 struct Entry(u32, u32, u32);
 
 // The j-th pair of two different handles, of which each has so many others.
-fn pair(question: u32, j: u32, others: u32) -> Entry {
-    if others == 0 {
-        return Entry(question, 0, 0);
-    }
-    Entry(question, j / others, after(j % others, j / others))
-}
-
-// The number, or the next one, so that it is never the other.
-fn after(number: u32, other: u32) -> u32 {
-    if number < other {
-        return number;
-    }
-    number % 4096 + 1
+fn pair(question: u32, j: u32, others: u32) -> Entry
+    requires { ⌜ 0 < others ⌝ }
+{
+    let yes = j / others;
+    let no = j % others;
+    Entry(question, yes, no % 4096 + (no >= yes) as u32 % 2)
 }
 
 // The entries in turn: the pairs of the two leaves at question 20, those of the four handles then there at question 19, of sixteen at question
@@ -75,18 +69,10 @@ pub fn filled(entries: u32) -> [u32; FULL_WORDS] {
     store
 }
 
-// The question number of a handle; a leaf comes after all.
-fn asks(store: &[u32], handle: u32) -> u32 {
-    if handle < 2 {
-        return 21;
-    }
-    question_of(store, handle - 2)
-}
-
 // A question number before those of two handles.
 fn before(store: &[u32], a: u32, b: u32) -> u32 {
-    let first = asks(store, a);
-    let second = asks(store, b);
+    let first = asked_by(store, a);
+    let second = asked_by(store, b);
     if first < second {
         return before_one(first);
     }

@@ -11,12 +11,11 @@ use crate::run::Run;
 use crate::run::agree;
 use crate::run::expect_answer;
 use crate::writing::ask_written;
-use evaluator::call_fault;
 use evaluator::call_of;
 use evaluator::copy;
 use evaluator::covers;
-use evaluator::first_words;
 use evaluator::is_sound;
+use evaluator::part;
 use evaluator::put;
 use evaluator::refused;
 use evaluator::same_words;
@@ -117,9 +116,8 @@ fn broken(way: u64) -> [u32; 25] {
 
 // A call that adds, of handles that are there or not.
 fn refuse_call(run: Run, kind: u32, store: &mut [u32]) -> Run {
-    let call = call_of(kind, 9, 0, 1);
-    let expected = refused(call_fault(call, &[7, 7, 7], store));
-    expect_answer(run, perform(call, &[7, 7, 7], store), expected)
+    let found = perform(call_of(kind, 9, 0, 1), &[7, 7, 7], store);
+    expect_answer(run, found, refused(22))
 }
 
 fn refuse_calls(mut run: Run, store: &mut [u32]) -> Run {
@@ -159,7 +157,7 @@ pub fn try_all_broken(mut run: Run) -> Run {
 // Beginnings of that store: its list or its entries are cut.
 pub fn try_all_cut(mut run: Run) -> Run {
     for size in 0..21usize {
-        run = refuse_all(run, first_words(&CASE_6, size));
+        run = refuse_all(run, part(&CASE_6, 0, size));
     }
     run
 }
@@ -204,5 +202,5 @@ pub fn try_changed(mut run: Run, store: &[u32]) -> Run {
     let word = throw_word(place.seed);
     let words = changed(store, place.number as usize, word.number);
     run.seed = word.seed;
-    ask_changed(run, first_words(&words, store.len()))
+    ask_changed(run, part(&words, 0, store.len()))
 }

@@ -13,8 +13,8 @@ use crate::writing::ask_written;
 use crate::writing::write_back;
 use evaluator::Answer;
 use evaluator::accepted;
-use evaluator::first_words;
 use evaluator::is_sound;
+use evaluator::part;
 use evaluator::refused;
 use evaluator::same_words;
 use evaluator::used;
@@ -33,7 +33,7 @@ fn open_questions(run: Run, list: &[u32], expected: u32) -> Run {
 // 20 questions, and 21.
 pub fn try_questions(run: Run) -> Run {
     let list = steps_list();
-    open_questions(open_questions(run, first_words(&list, 40), 0), &list, 13)
+    open_questions(open_questions(run, part(&list, 0, 40), 0), &list, 13)
 }
 
 // 257 rows of kind 1.
@@ -49,7 +49,7 @@ fn all_always() -> [u32; 1028] {
 pub fn try_rows(run: Run) -> Run {
     let table = all_always();
     let mut store = [0u32; 3];
-    let most = sheet_build(&mut store, first_words(&table, 1024));
+    let most = sheet_build(&mut store, part(&table, 0, 1024));
     let more = sheet_build(&mut store, &table);
     let built = expect_answer(expect_answer(run, most, accepted(1)), more, refused(33));
     agree(built, same_words(&store, &[0, 0, 0]))

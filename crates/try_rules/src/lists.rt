@@ -3,6 +3,7 @@ ghost use Prim.Native.Nat.{_+_, _<_, _^_};
 use crate::chance::throw;
 use evaluator::field;
 use evaluator::is_question;
+use evaluator::word_at;
 
 // A list's number of fields, its words, and how many of them there are: up to eight questions, or too many. And the seed after it.
 pub struct List {
@@ -12,20 +13,27 @@ pub struct List {
     pub seed: u64,
 }
 
-// The c-th of all questions over three fields with gaps up to 3, in the order of questions: left field, right field, and the steps, 0 to 3 on
-// the right and then 1 to 3 on the left. Some are none, as their right field is not smaller, or they have steps to the left of zero.
-fn left_term(c: u32) -> u32 {
-    if c % 7 < 4 {
-        return c / 21 % 3 + 1;
-    }
-    c / 21 % 3 + 1 + (c % 7 - 3) * 32
+// Two terms.
+struct Pair {
+    left: u32,
+    right: u32,
 }
 
-fn right_term(c: u32) -> u32 {
+// The c-th of all questions over three fields with gaps up to 3, in the order of questions: left field, right field, and the steps, 0 to 3 on
+// the right and then 1 to 3 on the left. Some are none, as their right field is not smaller, or they have steps to the left of zero.
+fn pair_at(c: u32) -> Pair {
+    let left = c / 21 % 3 + 1;
+    let right = c / 7 % 3;
     if c % 7 < 4 {
-        return c / 7 % 3 + c % 7 * 32;
+        return Pair {
+            left: left,
+            right: right + c % 7 * 32,
+        };
     }
-    c / 7 % 3
+    Pair {
+        left: left + (c % 7 - 3) * 32,
+        right: right,
+    }
 }
 
 // Whether that is a question over n fields. Gaps of 3 are for up to two fields: n × (K + 1) is then at most nine.
@@ -43,8 +51,8 @@ fn put_pair(mut list: List, place: usize, left: u32, right: u32) -> List {
     list
 }
 
-// Takes a question once in so many times, up to eight.
-fn throw_question(mut list: List, times: u32, left: u32, right: u32) -> List {
+// Takes a question once in so many times.
+fn throw_question(mut list: List, times: u32, pair: Pair) -> List {
     let thrown = throw(list.seed, times);
     let length = list.length;
     list.seed = thrown.seed;
@@ -52,18 +60,10 @@ fn throw_question(mut list: List, times: u32, left: u32, right: u32) -> List {
         return list;
     }
     list.length = length % 16 + 2;
-    put_pair(list, length as usize, left, right)
+    put_pair(list, length as usize, pair.left, pair.right)
 }
 
-fn throw_candidate(list: List, times: u32, c: u32) -> List {
-    let left = left_term(c);
-    let right = right_term(c);
-    if (list.length < 16) & is_candidate(list.n, left, right) {
-        return throw_question(list, times, left, right);
-    }
-    list
-}
-
+// A list of up to eight questions.
 pub fn throw_list(seed: u64) -> List {
     let n = throw(seed, 7);
     let times = throw(n.seed, 4);
@@ -74,7 +74,10 @@ pub fn throw_list(seed: u64) -> List {
         seed: times.seed,
     };
     for c in 0..63u32 {
-        list = throw_candidate(list, times.number + 1, c);
+        let pair = pair_at(c);
+        if (list.length < 16) & is_candidate(list.n, pair.left, pair.right) {
+            list = throw_question(list, times.number + 1, pair);
+        }
     }
     list
 }
@@ -95,14 +98,12 @@ fn spoil_word(mut list: List, least: u32, bound: u32) -> List
 
 // Turns a question round, or writes it over the next one.
 fn spoil_pair(mut list: List, round: bool) -> List {
+    let words = list.words;
     let place = throw(list.seed, list.length);
     let pair = 2 * ((place.number / 2) as usize);
+    let left = word_at(&words, pair);
+    let right = word_at(&words, pair + 1);
     list.seed = place.seed;
-    if pair > 40 {
-        return list;
-    }
-    let left = list.words[pair];
-    let right = list.words[pair + 1];
     if round {
         return put_pair(list, pair, right, left);
     }

@@ -4,7 +4,7 @@ use crate::run::Run;
 use crate::run::agree;
 use crate::run::expect_number;
 use evaluator::expect_opened;
-use evaluator::first_words;
+use evaluator::part;
 use evaluator::same_words;
 use sheet::sheet_open;
 
@@ -12,19 +12,12 @@ pub fn open_and_compare(run: Run, n: u32, list: &[u32], store: &mut [u32]) -> Ru
     let mut words = [0u32; 512];
     let expected = expect_opened(n, list, store, &mut words);
     let found = sheet_open(n, list, store);
-    agree(
-        expect_number(run, found.number, expected),
-        same_words(store, &words),
-    )
+    let told = expect_number(run, found.number, expected);
+    agree(told, same_words(store, &words))
 }
 
 // A generated list.
 pub fn open_list(run: Run, list: List, store: &mut [u32]) -> Run {
     let words = list.words;
-    open_and_compare(
-        run,
-        list.n,
-        first_words(&words, list.length as usize),
-        store,
-    )
+    open_and_compare(run, list.n, part(&words, 0, list.length as usize), store)
 }

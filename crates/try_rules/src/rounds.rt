@@ -6,7 +6,7 @@ use crate::chance::Thrown;
 use crate::chance::throw;
 use crate::hostile::try_changed;
 use crate::ledger::compare_pairs;
-use crate::ledger::first_handles;
+use crate::ledger::open_ledger;
 use crate::lists::List;
 use crate::lists::spoil;
 use crate::lists::throw_list;
@@ -58,8 +58,7 @@ fn ask_store(run: Run, store: &[u32]) -> Run {
 
 // The calls on a store with a list.
 fn try_store(run: Run, list: List, store: &mut [u32]) -> Run {
-    let mut opened = open_list(run, list, store);
-    opened.ledger = first_handles();
+    let opened = open_ledger(open_list(run, list, store));
     let called = try_calls(opened, store);
     ask_store(called, store)
 }

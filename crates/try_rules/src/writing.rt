@@ -1,22 +1,23 @@
 // Write back, against the evaluator, and built again.
 ghost use Prim.Native.Nat.{_≤_};
 use crate::chance::throw;
-use crate::ledger::handle_at;
 use crate::run::Run;
 use crate::run::agree;
 use crate::run::count;
 use crate::run::expect_answer;
 use crate::run::expect_number;
 use evaluator::accepted;
+use evaluator::all_are;
 use evaluator::call_of;
 use evaluator::copy;
 use evaluator::differences;
 use evaluator::expect_written;
 use evaluator::fields;
-use evaluator::first_words;
+use evaluator::part;
 use evaluator::same_words;
 use evaluator::sheets_of;
 use evaluator::table_fault;
+use evaluator::word_at;
 use sheet::sheet_build;
 use sheet::sheet_write_back;
 
@@ -39,42 +40,25 @@ pub fn write_back(store: &[u32], handle: u32, length: usize) -> Written
     }
 }
 
-// Whether all words from a place on are still 7.
-fn rest_left(words: &[u32; 1024], place: usize) -> bool {
-    if place > 1024 {
-        return true;
-    }
-    for i in place..1024usize {
-        if words[i] != 7 {
-            return false;
-        }
-    }
-    true
-}
-
-// The rows written back mean what the handle means.
-fn compare_rows(run: Run, store: &[u32], handle: u32, table: &[u32]) -> Run {
-    let differ = differences(call_of(2, 0, 0, 0), table, store, handle);
-    count(run, sheets_of(fields(store)), differ)
-}
-
-fn compare_rule(run: Run, store: &[u32], handle: u32, written: Written) -> Run {
-    let words = written.words;
-    let end = 4 * (written.rows as usize);
-    let kept = agree(run, rest_left(&words, end));
-    compare_rows(kept, store, handle, first_words(&words, end))
-}
-
-// What was written into so many words.
+// What was written into so many words: number and rows, the words after the rows, and the meaning of the rows.
 fn compare_written(run: Run, store: &[u32], handle: u32, length: usize, written: Written) -> Run {
     let expected = expect_written(store, handle, length);
-    let numbered = expect_number(run, written.number, expected.number);
+    let array = written.words;
+    let words: &[u32] = &array;
+    let end = 4 * (written.rows as usize);
+    let same = written.rows == expected.result;
+    let kept = all_are(part(words, end, 1024), 7);
+    let told = expect_number(run, written.number, expected.number);
     if expected.number != 0 {
-        let words = written.words;
-        return agree(numbered, written.rows == 0 && rest_left(&words, 0));
+        return agree(told, same & kept);
     }
-    let counted = agree(numbered, written.rows == expected.result);
-    compare_rule(counted, store, handle, written)
+    let build = call_of(2, 0, 0, 0);
+    let differ = differences(build, part(words, 0, end), store, handle);
+    count(
+        agree(agree(told, same), kept),
+        sheets_of(fields(store)),
+        differ,
+    )
 }
 
 // Writes back into so many words, and compares.
@@ -122,7 +106,7 @@ fn write_thrown(mut run: Run, store: &[u32], handle: u32) -> Run {
     if end == 0 {
         return compared;
     }
-    build_again(compared, store, handle, first_words(&words, end))
+    build_again(compared, store, handle, part(&words, 0, end))
 }
 
 // So many words, or all there are.
@@ -137,9 +121,9 @@ fn within(length: usize) -> usize
 
 // Each handle of the ledger, into a slice of any length.
 pub fn write_handles(mut run: Run, store: &[u32]) -> Run {
-    let ledger = run.ledger;
-    for i in 0..ledger.count {
-        run = write_thrown(run, store, handle_at(ledger, i));
+    let handles = run.handles;
+    for i in 0..run.entered {
+        run = write_thrown(run, store, word_at(&handles, i as usize));
     }
     run
 }

@@ -7,7 +7,6 @@ use Rattle.evaluator.proofs.drawing.draw.Reads as draw
 use Rattle.evaluator.proofs.drawing.draw.Kinds as draw-kinds
 use Rattle.evaluator.proofs.drawing.+draw.Lts-draw as draw-lts
 use Rattle.evaluator.proofs.drawing.ask.Reads as ask-reads
-use Rattle.evaluator.proofs.drawing.leaf_of.Reads as leaf-of-reads
 use Rattle.evaluator.proofs.drawing.+draw.{statement}
 use Rattle.evaluator.proofs.drawing.+draw.Tie.{close}
 
@@ -22,10 +21,16 @@ draw-below t = and 2 draw-kinds.ps (falls 2 draw-kinds.ps _<_ μ-draw t) draw.Pr
 
 -- what the callees ask and give, at the measure t
 abbrev knows : ℕ → draw-lts.Claims
-knows t = (leaf-of-reads.Asked, leaf-of-reads.Learnt, draw-below t, draw.Post, ask-reads.Asked, ask-reads.Learnt)
+knows t = (draw-below t, draw.Post, ask-reads.Asked, ask-reads.Learnt)
 
-draw-leaf-of-requires : (t : ℕ) → draw-lts.Need-leaf-of-requires (knows t) (draw-at t) draw.Post
-draw-leaf-of-requires t c κs = search needs
+draw-cast-result : (t : ℕ) → draw-lts.Need-cast-result (knows t) (draw-at t) draw.Post
+draw-cast-result t c = search needs
+
+draw-mul-result : (t : ℕ) → draw-lts.Need-mul-result (knows t) (draw-at t) draw.Post
+draw-mul-result t c = search needs
+
+draw-element-copy-out-result : (t : ℕ) → draw-lts.Need-element-copy-out-result (knows t) (draw-at t) draw.Post
+draw-element-copy-out-result t c = search needs
 
 draw-returns : (t : ℕ) → draw-lts.Need-returns (knows t) (draw-at t) draw.Post
 draw-returns t c = search needs
@@ -68,8 +73,6 @@ draw-returns-2 t c = search needs
 
 pub +draw-spec : {M : Type 1} → statement M
 +draw-spec = close μ-draw λ t. draw-lts.spec (
-  leaf-of-reads.Asked,
-  leaf-of-reads.Learnt,
   draw-below t,
   draw.Post,
   ask-reads.Asked,
@@ -77,7 +80,9 @@ pub +draw-spec : {M : Type 1} → statement M
 )
     (draw-at t)
     draw.Post
-    (draw-leaf-of-requires t)
+    (draw-cast-result t)
+    (draw-mul-result t)
+    (draw-element-copy-out-result t)
     (draw-returns t)
     (draw-mul-draw t)
     (draw-add-draw t)

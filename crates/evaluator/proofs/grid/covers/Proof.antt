@@ -5,16 +5,16 @@ use Rattle.evaluator.proofs.grid.covers.Statement.{statement}
 use Rattle.evaluator.proofs.grid.covers.Tie as tie
 
 abbrev Inv-loop : tie.InvT-loop
-Inv-loop store n i₀ i-end i = i ≤ i-end
+Inv-loop store n most within₀ i₀ i-end within i = i ≤ i-end
 
 abbrev μ-loop : tie.MeasureT-loop
-μ-loop store n i₀ i-end i = i-end - i
+μ-loop store n most within₀ i₀ i-end within i = i-end - i
 
 fields-requires : tie.Need-fields-requires Inv-loop μ-loop
 fields-requires c κs = search needs
 
-returns : tie.Need-returns Inv-loop μ-loop
-returns c = search needs
+most-steps-requires : tie.Need-most-steps-requires Inv-loop μ-loop
+most-steps-requires c κs = search needs
 
 questions-requires : tie.Need-questions-requires Inv-loop μ-loop
 questions-requires c κs = search needs
@@ -25,14 +25,8 @@ loop-holds c = search needs
 add-beyond : tie.Need-add-beyond Inv-loop μ-loop
 add-beyond c = search needs
 
-most-steps-requires : tie.Need-most-steps-requires Inv-loop μ-loop
-most-steps-requires c κs = search needs
-
 beyond-requires : tie.Need-beyond-requires Inv-loop μ-loop
 beyond-requires c κs = search needs
-
-returns-2 : tie.Need-returns-2 Inv-loop μ-loop
-returns-2 c = search needs
 
 add-i : tie.Need-add-i Inv-loop μ-loop
 add-i c = search needs
@@ -43,8 +37,8 @@ loop-less c = search needs
 loop-again : tie.Need-loop-again Inv-loop μ-loop
 loop-again c = search needs
 
-returns-3 : tie.Need-returns-3 Inv-loop μ-loop
-returns-3 c = search needs
+returns : tie.Need-returns Inv-loop μ-loop
+returns c = search needs
 
 pub covers-spec : {M : Type 1} → statement M
 covers-spec =
@@ -53,14 +47,12 @@ covers-spec =
     Inv-loop
     μ-loop
     fields-requires
-    returns
+    most-steps-requires
     questions-requires
     loop-holds
     add-beyond
-    most-steps-requires
     beyond-requires
-    returns-2
     add-i
     loop-less
     loop-again
-    returns-3)
+    returns)

@@ -6,10 +6,10 @@ use Rattle.evaluator.proofs.lists.questions_fault.Statement.{statement}
 use Rattle.evaluator.proofs.lists.questions_fault.Tie as tie
 
 abbrev Inv-loop : tie.InvT-loop
-Inv-loop n list before₀ i₀ i-end before i = (i ≤ i-end) × (i-end ≤ length list)
+Inv-loop n list fault₀ before₀ i₀ i-end fault before i = (i ≤ i-end) × (i-end ≤ length list)
 
 abbrev μ-loop : tie.MeasureT-loop
-μ-loop n list before₀ i₀ i-end before i = i-end - i
+μ-loop n list fault₀ before₀ i₀ i-end fault before i = i-end - i
 
 loop-holds : tie.Need-loop-holds Inv-loop μ-loop
 loop-holds c = search needs
@@ -32,9 +32,6 @@ word-at-requires-2 c κs = search needs
 question-fault-requires : tie.Need-question-fault-requires Inv-loop μ-loop
 question-fault-requires c κs = search needs
 
-returns : tie.Need-returns Inv-loop μ-loop
-returns c = search needs
-
 order-of-requires : tie.Need-order-of-requires Inv-loop μ-loop
 order-of-requires c κs = search needs
 
@@ -47,8 +44,8 @@ loop-less c = search needs
 loop-again : tie.Need-loop-again Inv-loop μ-loop
 loop-again c = search needs
 
-returns-2 : tie.Need-returns-2 Inv-loop μ-loop
-returns-2 c = search needs
+returns : tie.Need-returns Inv-loop μ-loop
+returns c = search needs
 
 pub questions-fault-spec : {M : Type 1} → statement M
 questions-fault-spec =
@@ -63,9 +60,8 @@ questions-fault-spec =
     add-word-at
     word-at-requires-2
     question-fault-requires
-    returns
     order-of-requires
     add-i
     loop-less
     loop-again
-    returns-2)
+    returns)

@@ -5,10 +5,10 @@ use Rattle.evaluator.proofs.rules.on_list.Statement.{statement}
 use Rattle.evaluator.proofs.rules.on_list.Tie as tie
 
 abbrev Inv-loop : tie.InvT-loop
-Inv-loop store a b i₀ i-end i = i ≤ i-end
+Inv-loop store a b listed₀ i₀ i-end listed i = i ≤ i-end
 
 abbrev μ-loop : tie.MeasureT-loop
-μ-loop store a b i₀ i-end i = i-end - i
+μ-loop store a b listed₀ i₀ i-end listed i = i-end - i
 
 questions-requires : tie.Need-questions-requires Inv-loop μ-loop
 questions-requires c κs = search needs
@@ -22,9 +22,6 @@ add-asks c = search needs
 asks-requires : tie.Need-asks-requires Inv-loop μ-loop
 asks-requires c κs = search needs
 
-returns : tie.Need-returns Inv-loop μ-loop
-returns c = search needs
-
 add-i : tie.Need-add-i Inv-loop μ-loop
 add-i c = search needs
 
@@ -34,8 +31,8 @@ loop-less c = search needs
 loop-again : tie.Need-loop-again Inv-loop μ-loop
 loop-again c = search needs
 
-returns-2 : tie.Need-returns-2 Inv-loop μ-loop
-returns-2 c = search needs
+returns : tie.Need-returns Inv-loop μ-loop
+returns c = search needs
 
 pub on-list-spec : {M : Type 1} → statement M
 on-list-spec =
@@ -47,8 +44,7 @@ on-list-spec =
     loop-holds
     add-asks
     asks-requires
-    returns
     add-i
     loop-less
     loop-again
-    returns-2)
+    returns)

@@ -5,10 +5,10 @@ use Rattle.evaluator.proofs.rules.rows_fault.Statement.{statement}
 use Rattle.evaluator.proofs.rules.rows_fault.Tie as tie
 
 abbrev Inv-loop : tie.InvT-loop
-Inv-loop store table rows r₀ r = r ≤ rows
+Inv-loop store table rows fault₀ r₀ fault r = r ≤ rows
 
 abbrev μ-loop : tie.MeasureT-loop
-μ-loop store table rows r₀ r = rows - r
+μ-loop store table rows fault₀ r₀ fault r = rows - r
 
 loop-holds : tie.Need-loop-holds Inv-loop μ-loop
 loop-holds c = search needs
@@ -16,8 +16,8 @@ loop-holds c = search needs
 row-fault-requires : tie.Need-row-fault-requires Inv-loop μ-loop
 row-fault-requires c κs = search needs
 
-returns : tie.Need-returns Inv-loop μ-loop
-returns c = search needs
+refuse-requires : tie.Need-refuse-requires Inv-loop μ-loop
+refuse-requires c κs = search needs
 
 add-r : tie.Need-add-r Inv-loop μ-loop
 add-r c = search needs
@@ -28,8 +28,8 @@ loop-less c = search needs
 loop-again : tie.Need-loop-again Inv-loop μ-loop
 loop-again c = search needs
 
-returns-2 : tie.Need-returns-2 Inv-loop μ-loop
-returns-2 c = search needs
+returns : tie.Need-returns Inv-loop μ-loop
+returns c = search needs
 
 pub rows-fault-spec : {M : Type 1} → statement M
 rows-fault-spec =
@@ -39,8 +39,8 @@ rows-fault-spec =
     μ-loop
     loop-holds
     row-fault-requires
-    returns
+    refuse-requires
     add-r
     loop-less
     loop-again
-    returns-2)
+    returns)

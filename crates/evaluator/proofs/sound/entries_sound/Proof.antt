@@ -5,10 +5,10 @@ use Rattle.evaluator.proofs.sound.entries_sound.Statement.{statement}
 use Rattle.evaluator.proofs.sound.entries_sound.Tie as tie
 
 abbrev Inv-loop : tie.InvT-loop
-Inv-loop store i₀ i-end i = i ≤ i-end
+Inv-loop store sound₀ i₀ i-end sound i = i ≤ i-end
 
 abbrev μ-loop : tie.MeasureT-loop
-μ-loop store i₀ i-end i = i-end - i
+μ-loop store sound₀ i₀ i-end sound i = i-end - i
 
 used-requires : tie.Need-used-requires Inv-loop μ-loop
 used-requires c κs = search needs
@@ -19,9 +19,6 @@ loop-holds c = search needs
 entry-sound-requires : tie.Need-entry-sound-requires Inv-loop μ-loop
 entry-sound-requires c κs = search needs
 
-returns : tie.Need-returns Inv-loop μ-loop
-returns c = search needs
-
 add-i : tie.Need-add-i Inv-loop μ-loop
 add-i c = search needs
 
@@ -31,8 +28,8 @@ loop-less c = search needs
 loop-again : tie.Need-loop-again Inv-loop μ-loop
 loop-again c = search needs
 
-returns-2 : tie.Need-returns-2 Inv-loop μ-loop
-returns-2 c = search needs
+returns : tie.Need-returns Inv-loop μ-loop
+returns c = search needs
 
 pub entries-sound-spec : {M : Type 1} → statement M
 entries-sound-spec =
@@ -43,8 +40,7 @@ entries-sound-spec =
     used-requires
     loop-holds
     entry-sound-requires
-    returns
     add-i
     loop-less
     loop-again
-    returns-2)
+    returns)

@@ -7,22 +7,22 @@ use Rattle.evaluator.proofs.words.same_words.Statement.{statement}
 use Rattle.evaluator.proofs.words.same_words.Tie as tie
 
 abbrev Inv-loop : tie.InvT-loop
-Inv-loop s t i₀ i-end i = (i ≤ i-end) × (i-end ≡ length s)
+Inv-loop s t same₀ i₀ i-end same i = (i ≤ i-end) × (i-end ≡ length s)
 
 abbrev μ-loop : tie.MeasureT-loop
-μ-loop s t i₀ i-end i = i-end - i
+μ-loop s t same₀ i₀ i-end same i = i-end - i
 
 loop-holds : tie.Need-loop-holds Inv-loop μ-loop
 loop-holds c = search needs
 
+mul-same : tie.Need-mul-same Inv-loop μ-loop
+mul-same c = search needs
+
+shared-slice-read-same : tie.Need-shared-slice-read-same Inv-loop μ-loop
+shared-slice-read-same c = search needs
+
 word-at-requires : tie.Need-word-at-requires Inv-loop μ-loop
 word-at-requires c κs = search needs
-
-word-at-requires-2 : tie.Need-word-at-requires-2 Inv-loop μ-loop
-word-at-requires-2 c κs = search needs
-
-returns : tie.Need-returns Inv-loop μ-loop
-returns c = search needs
 
 add-i : tie.Need-add-i Inv-loop μ-loop
 add-i c = search needs
@@ -33,8 +33,8 @@ loop-less c = search needs
 loop-again : tie.Need-loop-again Inv-loop μ-loop
 loop-again c = search needs
 
-returns-2 : tie.Need-returns-2 Inv-loop μ-loop
-returns-2 c = search needs
+returns : tie.Need-returns Inv-loop μ-loop
+returns c = search needs
 
 pub same-words-spec : {M : Type 1} → statement M
 same-words-spec =
@@ -43,10 +43,10 @@ same-words-spec =
     Inv-loop
     μ-loop
     loop-holds
+    mul-same
+    shared-slice-read-same
     word-at-requires
-    word-at-requires-2
-    returns
     add-i
     loop-less
     loop-again
-    returns-2)
+    returns)

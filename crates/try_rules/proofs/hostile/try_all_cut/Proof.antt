@@ -13,11 +13,11 @@ abbrev μ-loop : tie.MeasureT-loop
 loop-holds : tie.Need-loop-holds Inv-loop μ-loop
 loop-holds c = search needs
 
-slice-aggregate-first-words : tie.Need-slice-aggregate-first-words Inv-loop μ-loop
-slice-aggregate-first-words c = search needs
+slice-aggregate-part : tie.Need-slice-aggregate-part Inv-loop μ-loop
+slice-aggregate-part c = search needs
 
-first-words-requires : tie.Need-first-words-requires Inv-loop μ-loop
-first-words-requires c κs = search needs
+part-requires : tie.Need-part-requires Inv-loop μ-loop
+part-requires c κs = search needs
 
 refuse-all-requires : tie.Need-refuse-all-requires Inv-loop μ-loop
 refuse-all-requires c κs = search needs
@@ -41,8 +41,8 @@ try-all-cut-spec =
     Inv-loop
     μ-loop
     loop-holds
-    slice-aggregate-first-words
-    first-words-requires
+    slice-aggregate-part
+    part-requires
     refuse-all-requires
     add-size
     loop-less

@@ -5,22 +5,28 @@ use Rattle.try_rules.proofs.ledger.compare_with.Statement.{statement}
 use Rattle.try_rules.proofs.ledger.compare_with.Tie as tie
 
 abbrev Inv-loop : tie.InvT-loop
-Inv-loop run₀ store i ledger j₀ run j = j ≤ i
+Inv-loop run₀ store handles i handle j₀ run j = j ≤ i
 
 abbrev μ-loop : tie.MeasureT-loop
-μ-loop run₀ store i ledger j₀ run j = i - j
+μ-loop run₀ store handles i handle j₀ run j = i - j
+
+word-at-requires : tie.Need-word-at-requires Inv-loop μ-loop
+word-at-requires c κs = search needs
 
 loop-holds : tie.Need-loop-holds Inv-loop μ-loop
 loop-holds c = search needs
 
-handle-at-requires : tie.Need-handle-at-requires Inv-loop μ-loop
-handle-at-requires c κs = search needs
+cast-word-at : tie.Need-cast-word-at Inv-loop μ-loop
+cast-word-at c = search needs
 
-handle-at-requires-2 : tie.Need-handle-at-requires-2 Inv-loop μ-loop
-handle-at-requires-2 c κs = search needs
+word-at-requires-2 : tie.Need-word-at-requires-2 Inv-loop μ-loop
+word-at-requires-2 c κs = search needs
 
-compare-pair-requires : tie.Need-compare-pair-requires Inv-loop μ-loop
-compare-pair-requires c κs = search needs
+alike-requires : tie.Need-alike-requires Inv-loop μ-loop
+alike-requires c κs = search needs
+
+agree-requires : tie.Need-agree-requires Inv-loop μ-loop
+agree-requires c κs = search needs
 
 add-j : tie.Need-add-j Inv-loop μ-loop
 add-j c = search needs
@@ -40,10 +46,12 @@ compare-with-spec =
     (tie.spec
     Inv-loop
     μ-loop
+    word-at-requires
     loop-holds
-    handle-at-requires
-    handle-at-requires-2
-    compare-pair-requires
+    cast-word-at
+    word-at-requires-2
+    alike-requires
+    agree-requires
     add-j
     loop-less
     loop-again

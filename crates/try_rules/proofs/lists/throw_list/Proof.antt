@@ -19,11 +19,17 @@ throw-requires-2 c κs = search needs
 loop-holds : tie.Need-loop-holds Inv-loop μ-loop
 loop-holds c = search needs
 
-add-throw-candidate : tie.Need-add-throw-candidate Inv-loop μ-loop
-add-throw-candidate c = search needs
+pair-at-requires : tie.Need-pair-at-requires Inv-loop μ-loop
+pair-at-requires c κs = search needs
 
-throw-candidate-requires : tie.Need-throw-candidate-requires Inv-loop μ-loop
-throw-candidate-requires c κs = search needs
+is-candidate-requires : tie.Need-is-candidate-requires Inv-loop μ-loop
+is-candidate-requires c κs = search needs
+
+add-throw-question : tie.Need-add-throw-question Inv-loop μ-loop
+add-throw-question c = search needs
+
+throw-question-requires : tie.Need-throw-question-requires Inv-loop μ-loop
+throw-question-requires c κs = search needs
 
 add-c : tie.Need-add-c Inv-loop μ-loop
 add-c c = search needs
@@ -46,8 +52,10 @@ throw-list-spec =
     throw-requires
     throw-requires-2
     loop-holds
-    add-throw-candidate
-    throw-candidate-requires
+    pair-at-requires
+    is-candidate-requires
+    add-throw-question
+    throw-question-requires
     add-c
     loop-less
     loop-again

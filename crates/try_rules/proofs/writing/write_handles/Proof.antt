@@ -5,16 +5,22 @@ use Rattle.try_rules.proofs.writing.write_handles.Statement.{statement}
 use Rattle.try_rules.proofs.writing.write_handles.Tie as tie
 
 abbrev Inv-loop : tie.InvT-loop
-Inv-loop run₀ store ledger i₀ i-end run i = i ≤ i-end
+Inv-loop run₀ store handles i₀ i-end run i = i ≤ i-end
 
 abbrev μ-loop : tie.MeasureT-loop
-μ-loop run₀ store ledger i₀ i-end run i = i-end - i
+μ-loop run₀ store handles i₀ i-end run i = i-end - i
 
 loop-holds : tie.Need-loop-holds Inv-loop μ-loop
 loop-holds c = search needs
 
-handle-at-requires : tie.Need-handle-at-requires Inv-loop μ-loop
-handle-at-requires c κs = search needs
+slice-aggregate-word-at : tie.Need-slice-aggregate-word-at Inv-loop μ-loop
+slice-aggregate-word-at c = search needs
+
+cast-word-at : tie.Need-cast-word-at Inv-loop μ-loop
+cast-word-at c = search needs
+
+word-at-requires : tie.Need-word-at-requires Inv-loop μ-loop
+word-at-requires c κs = search needs
 
 write-thrown-requires : tie.Need-write-thrown-requires Inv-loop μ-loop
 write-thrown-requires c κs = search needs
@@ -38,7 +44,9 @@ write-handles-spec =
     Inv-loop
     μ-loop
     loop-holds
-    handle-at-requires
+    slice-aggregate-word-at
+    cast-word-at
+    word-at-requires
     write-thrown-requires
     add-i
     loop-less

@@ -1,22 +1,26 @@
 -- `all_always` is safe and ends: the loop's place stays within its bound.
 use Prim.Native.Nat.{_-_, _≤_}
-use mathlib.Core.Path.{_≡_}
 use borrow.Author.Needs.{needs}
-use lib.ListN.{length}
-use Rattle.try_cases.proofs.rules.all_always.Statement.{statement}
-use Rattle.try_cases.proofs.rules.all_always.Tie as tie
+use Rattle.try_cases.proofs.changing.all_always.Statement.{statement}
+use Rattle.try_cases.proofs.changing.all_always.Tie as tie
 
 abbrev Inv-loop : tie.InvT-loop
-Inv-loop table₀ r₀ r-end table r = (r ≤ r-end) × (length table ≡ length table₀)
+Inv-loop table₀ r₀ table r = r ≤ 257
 
 abbrev μ-loop : tie.MeasureT-loop
-μ-loop table₀ r₀ r-end table r = r-end - r
+μ-loop table₀ r₀ table r = 257 - r
 
 loop-holds : tie.Need-loop-holds Inv-loop μ-loop
 loop-holds c = search needs
 
-row-requires : tie.Need-row-requires Inv-loop μ-loop
-row-requires c κs = search needs
+mul-table : tie.Need-mul-table Inv-loop μ-loop
+mul-table c = search needs
+
+mul-table-2 : tie.Need-mul-table-2 Inv-loop μ-loop
+mul-table-2 c = search needs
+
+array-write-table : tie.Need-array-write-table Inv-loop μ-loop
+array-write-table c = search needs
 
 add-r : tie.Need-add-r Inv-loop μ-loop
 add-r c = search needs
@@ -26,9 +30,6 @@ loop-less c = search needs
 
 loop-again : tie.Need-loop-again Inv-loop μ-loop
 loop-again c = search needs
-
-same-length : tie.Need-same-length Inv-loop μ-loop
-same-length c = search needs
 
 returns : tie.Need-returns Inv-loop μ-loop
 returns c = search needs
@@ -40,9 +41,10 @@ all-always-spec =
     Inv-loop
     μ-loop
     loop-holds
-    row-requires
+    mul-table
+    mul-table-2
+    array-write-table
     add-r
     loop-less
     loop-again
-    same-length
     returns)

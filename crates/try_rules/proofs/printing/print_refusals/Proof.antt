@@ -1,8 +1,8 @@
 -- `print_refusals` is safe and ends: the loop's place stays within its bound.
 use Prim.Native.Nat.{_-_, _≤_}
 use borrow.Author.Needs.{needs}
-use Rattle.try_rules.proofs.tally.print_refusals.Statement.{statement}
-use Rattle.try_rules.proofs.tally.print_refusals.Tie as tie
+use Rattle.try_rules.proofs.printing.print_refusals.Statement.{statement}
+use Rattle.try_rules.proofs.printing.print_refusals.Tie as tie
 
 abbrev Inv-loop : tie.InvT-loop
 Inv-loop met number₀ number = number ≤ 64
