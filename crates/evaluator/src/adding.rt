@@ -2,7 +2,7 @@
 use crate::answer::Answer;
 use crate::answer::accepted;
 use crate::answer::refused;
-use crate::calls::Call;
+use crate::calls::Row;
 use crate::calls::call_fault;
 use crate::drawing::draw;
 use crate::drawing::ways_of;
@@ -12,7 +12,7 @@ use crate::layout::used;
 use crate::words::copy;
 
 // Draws the call's diagram into a copy of the store's words, which is made anew where there is no room.
-fn expect_drawn(call: Call, table: &[u32], store: &[u32], words: &mut [u32]) -> Answer {
+fn expect_drawn(call: Row, table: &[u32], store: &[u32], words: &mut [u32]) -> Answer {
     let ways = ways_of(call, table, store);
     let handle = draw(words, &ways, 0, 1, questions(store) % 32);
     if !has_room(store, used(words)) {
@@ -23,7 +23,7 @@ fn expect_drawn(call: Call, table: &[u32], store: &[u32], words: &mut [u32]) -> 
 }
 
 // The answer of a call; the store's words afterwards go into a slice that is long enough.
-pub fn expect_added(call: Call, table: &[u32], store: &[u32], words: &mut [u32]) -> Answer {
+pub fn expect_added(call: Row, table: &[u32], store: &[u32], words: &mut [u32]) -> Answer {
     copy(store, words);
     let fault = call_fault(call, table, store);
     if fault != 0 {

@@ -50,6 +50,8 @@ pub fn least_sheet(store: &[u32], handle: u32) -> [u16; 3] {
 // The result is the number of rows.
 pub fn expect_written(store: &[u32], handle: u32, length: usize) -> Answer {
     let rows = rows_of(store, handle);
-    let fault = refuse(handle_fault(store, handle), rows > 256, 53);
-    answered(refuse(fault, length < 4 * (rows as usize), 23), rows)
+    let mut fault = handle_fault(store, handle);
+    fault = refuse(fault, rows > 256, 53);
+    fault = refuse(fault, length < 4 * (rows as usize), 23);
+    answered(fault, rows)
 }

@@ -9,36 +9,36 @@ use crate::truth::combined;
 use crate::truth::handle_truth;
 use crate::truth::rule_truth;
 
-// A call by the kind of row that it stands for: 2 build, 3 negate, 4 join, 5 choose. The handles that a call does not take are 0.
-pub struct Call {
+// A row of a rule table: its kind and its columns. A call is given by the row that it stands for: 2 build, 3 negate, 4 join, 5 choose.
+pub struct Row {
     pub kind: u32,
     pub a: u32,
     pub b: u32,
     pub c: u32,
 }
 
-// A call with the handles that it takes.
-pub fn call_of(kind: u32, a: u32, b: u32, c: u32) -> Call {
+// A row or a call with the columns that it takes, and zeros in the others. Build takes none.
+pub fn row_of(kind: u32, a: u32, b: u32, c: u32) -> Row {
     match kind {
-        3 => Call {
+        3 => Row {
             kind: 3,
             a: a,
             b: 0,
             c: 0,
         },
-        4 => Call {
+        4 => Row {
             kind: 4,
             a: a,
             b: b,
             c: 0,
         },
-        5 => Call {
+        5 => Row {
             kind: 5,
             a: a,
             b: b,
             c: c,
         },
-        _ => Call {
+        _ => Row {
             kind: 2,
             a: 0,
             b: 0,
@@ -48,7 +48,7 @@ pub fn call_of(kind: u32, a: u32, b: u32, c: u32) -> Call {
 }
 
 // The refusal of the store, and then of the rule table or of the handles; 0 if there is none.
-pub fn call_fault(call: Call, table: &[u32], store: &[u32]) -> u32 {
+pub fn call_fault(call: Row, table: &[u32], store: &[u32]) -> u32 {
     if !is_sound(store) {
         return 22;
     }
@@ -65,12 +65,12 @@ fn handles_fault(store: &[u32], a: u32, b: u32, c: u32) -> u32 {
 }
 
 // The meaning of a call at a sheet of the grid.
-pub fn call_truth(call: Call, table: &[u32], store: &[u32], number: u32) -> bool {
+pub fn call_truth(call: Row, table: &[u32], store: &[u32], number: u32) -> bool {
     let sheet = sheet_of(fields(store), number);
     sheet_truth(call, table, store, &sheet)
 }
 
-fn sheet_truth(call: Call, table: &[u32], store: &[u32], sheet: &[u16]) -> bool {
+fn sheet_truth(call: Row, table: &[u32], store: &[u32], sheet: &[u16]) -> bool {
     if call.kind == 2 {
         return rule_truth(table, sheet);
     }

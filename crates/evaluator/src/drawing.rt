@@ -1,7 +1,7 @@
 // The finished diagram of a call's meaning, drawn from its truth at each sheet of the grid. No facts are gathered: what the sheets of the grid
 // answer to the questions shows which answers go together.
 ghost use Prim.Native.Nat.{_+_, _<_};
-use crate::calls::Call;
+use crate::calls::Row;
 use crate::calls::call_truth;
 use crate::entries::find_entry;
 use crate::entries::put_entry;
@@ -33,7 +33,7 @@ fn way_of(store: &[u32], sheet: &[u16]) -> u32
     way
 }
 
-pub fn ways_of(call: Call, table: &[u32], store: &[u32]) -> Ways {
+pub fn ways_of(call: Row, table: &[u32], store: &[u32]) -> Ways {
     let mut ways = [NOTHING; 256];
     let n = fields(store);
     for number in 0..sheets_of(n) {

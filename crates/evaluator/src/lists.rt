@@ -20,10 +20,10 @@ fn order_of(left: u32, right: u32) -> u32 {
 }
 
 // The refusal of a question, given where the one before stands in the order. A question's left field is above 0, so the first is above 0.
-fn question_fault(fault: u32, n: u32, left: u32, right: u32, before: u32) -> u32 {
-    let term = refuse(fault, bad_term(n, left) | bad_term(n, right), 14);
-    let form = refuse(term, !is_question(left, right), 15);
-    refuse(form, order_of(left, right) <= before, 16)
+fn question_fault(mut fault: u32, n: u32, left: u32, right: u32, before: u32) -> u32 {
+    fault = refuse(fault, bad_term(n, left) | bad_term(n, right), 14);
+    fault = refuse(fault, !is_question(left, right), 15);
+    refuse(fault, order_of(left, right) <= before, 16)
 }
 
 // The first refusal among the questions of a list.

@@ -1,5 +1,5 @@
 // Meanings at all sheets of the grid.
-use crate::calls::Call;
+use crate::calls::Row;
 use crate::calls::call_truth;
 use crate::grid::sheet_of;
 use crate::grid::sheets_of;
@@ -33,7 +33,7 @@ pub fn alike(store: &[u32], a: u32, b: u32) -> bool {
 }
 
 // At how many sheets a handle differs from the meaning of a call.
-pub fn differences(call: Call, table: &[u32], store: &[u32], handle: u32) -> u32 {
+pub fn differences(call: Row, table: &[u32], store: &[u32], handle: u32) -> u32 {
     let mut count = 0;
     for number in 0..sheets_of(fields(store)) {
         let differ = truth_at(store, handle, number) != call_truth(call, table, store, number);

@@ -6,10 +6,10 @@ use crate::words::word_at;
 
 // The refusal of opening a store of so many words.
 fn open_fault(n: u32, list: &[u32], length: usize) -> u32 {
-    let fields = refuse(0, n > 16, 11);
-    let odd = refuse(fields, list.len() % 2 == 1, 12);
-    let many = refuse(odd, list.len() > 40, 13);
-    let fault = refuse(many, true, questions_fault(n, list));
+    let mut fault = refuse(0, n > 16, 11);
+    fault = refuse(fault, list.len() % 2 == 1, 12);
+    fault = refuse(fault, list.len() > 40, 13);
+    fault = refuse(fault, true, questions_fault(n, list));
     refuse(fault, length < 3 + list.len(), 21)
 }
 

@@ -78,9 +78,9 @@ fn rows_fault(store: &[u32], table: &[u32], rows: u32) -> u32 {
 
 pub fn table_fault(store: &[u32], table: &[u32]) -> u32 {
     let length = table.len();
-    let none = refuse(0, length == 0, 31);
-    let odd = refuse(none, length % 4 != 0, 32);
-    let fault = refuse(odd, length > 1024, 33);
+    let mut fault = refuse(0, length == 0, 31);
+    fault = refuse(fault, length % 4 != 0, 32);
+    fault = refuse(fault, length > 1024, 33);
     refuse(
         fault,
         true,

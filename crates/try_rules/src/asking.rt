@@ -33,37 +33,34 @@ pub fn ask_read(run: Run, store: &[u32], handle: u32, sheet: &[u16]) -> Run {
     )
 }
 
-fn count_at(s: &[u16], place: usize) -> u16 {
-    if place < s.len() {
-        return s[place];
+// Up to four counts as one number.
+fn packed(counts: &[u16]) -> u64 {
+    let mut number = 0;
+    for i in 0..counts.len() {
+        number = appended(number, counts[i]);
     }
-    0
+    number
 }
 
-fn same_counts(s: &[u16], t: &[u16]) -> bool {
-    for i in 0..s.len() {
-        if count_at(s, i) != count_at(t, i) {
-            return false;
-        }
-    }
-    true
+fn appended(number: u64, count: u16) -> u64 {
+    number % 281474976710656 * 65536 + count as u64
 }
 
 // The least satisfying sheet where there is one, and the counts as they were where there is none.
 fn is_least(store: &[u32], handle: u32, number: u32, counts: &[u16]) -> bool {
-    if number == 0 {
-        return same_counts(counts, &least_sheet(store, handle));
-    }
-    same_counts(counts, &[7, 7, 7, 7])
+    let n = counts.len();
+    let expected = match number {
+        0 => packed(first_counts(&least_sheet(store, handle), n)),
+        _ => packed(first_counts(&[7, 7, 7, 7], n)),
+    };
+    packed(counts) == expected
 }
 
-fn compare_example(run: Run, store: &[u32], handle: u32, counts: &mut [u16]) -> Run {
+fn compare_example(mut run: Run, store: &[u32], handle: u32, counts: &mut [u16]) -> Run {
     let expected = expect_example(store, handle, counts.len());
     let found = sheet_example(store, handle, counts);
-    agree(
-        expect_number(run, found.number, expected),
-        is_least(store, handle, expected, counts),
-    )
+    run = expect_number(run, found.number, expected);
+    agree(run, is_least(store, handle, expected, counts))
 }
 
 // An example in a slice of so many counts.
@@ -91,28 +88,18 @@ fn throw_length(seed: u64, store: &[u32]) -> Thrown
 
 // A count in the grid or far beyond it, to the largest.
 fn throw_count(seed: u64) -> Thrown {
-    let way = throw(seed, 8);
-    let number = way.number;
-    match number {
-        0 => Thrown {
-            number: 65535,
-            seed: way.seed,
-        },
-        1 => throw_last(way.seed),
-        2 => throw(way.seed, 32768),
-        _ => throw(way.seed, 8),
+    let mut thrown = throw(seed, 8);
+    let way = thrown.number;
+    match way {
+        0 => thrown.number = 65535,
+        1 => {
+            thrown = throw(thrown.seed, 16);
+            thrown.number = 65520 + thrown.number;
+        }
+        2 => thrown = throw(thrown.seed, 32768),
+        _ => thrown = throw(thrown.seed, 8),
     }
-}
-
-// One of the last counts.
-fn throw_last(seed: u64) -> Thrown {
-    let mut count = throw(seed, 16);
-    count.number = 65520 + count.number % 16;
-    count
-}
-
-fn narrow(count: u32) -> u16 {
-    (count % 65536) as u16
+    thrown
 }
 
 fn ask_thrown_read(mut run: Run, store: &[u32], handle: u32) -> Run {
@@ -121,7 +108,12 @@ fn ask_thrown_read(mut run: Run, store: &[u32], handle: u32) -> Run {
     let c = throw_count(b.seed);
     let length = throw_length(c.seed, store);
     run.seed = length.seed;
-    let sheet = [narrow(a.number), narrow(b.number), narrow(c.number), 1];
+    let sheet = [
+        (a.number % 65536) as u16,
+        (b.number % 65536) as u16,
+        (c.number % 65536) as u16,
+        1,
+    ];
     ask_read(
         run,
         store,
@@ -136,9 +128,10 @@ fn ask_thrown(mut run: Run, store: &[u32]) -> Run {
     let handle = thrown.number;
     let length = throw_length(thrown.seed, store);
     run.seed = length.seed;
-    let told = ask_verdict(run, store, handle);
-    let shown = ask_example(told, store, handle, length.number as usize);
-    ask_thrown_read(ask_thrown_read(shown, store, handle), store, handle)
+    run = ask_verdict(run, store, handle);
+    run = ask_example(run, store, handle, length.number as usize);
+    run = ask_thrown_read(run, store, handle);
+    ask_thrown_read(run, store, handle)
 }
 
 // Some handles of the store, whoever made their entries.

@@ -8,15 +8,15 @@ use crate::run::Run;
 use crate::run::agree;
 use crate::run::count;
 use crate::run::expect_answer;
-use evaluator::Call;
+use evaluator::Row;
 use evaluator::accepted;
-use evaluator::call_of;
 use evaluator::call_truth;
 use evaluator::differences;
 use evaluator::expect_added;
 use evaluator::fields;
 use evaluator::first_counts;
 use evaluator::part;
+use evaluator::row_of;
 use evaluator::same_words;
 use evaluator::sheet_of;
 use evaluator::sheets_of;
@@ -53,7 +53,7 @@ fn throw_beyond(seed: u64, handles: u32) -> Thrown {
 // A call with a table for it, and the seed after both.
 struct Next {
     table: Table,
-    call: Call,
+    call: Row,
     seed: u64,
 }
 
@@ -65,12 +65,12 @@ fn throw_next(seed: u64, store: &[u32]) -> Next {
     let c = throw_handle(b.seed, store);
     Next {
         table: table,
-        call: call_of(kind.number + 1, a.number, b.number, c.number),
+        call: row_of(kind.number + 1, a.number, b.number, c.number),
         seed: c.seed,
     }
 }
 
-pub fn perform(call: Call, table: &[u32], store: &mut [u32]) -> Answer {
+pub fn perform(call: Row, table: &[u32], store: &mut [u32]) -> Answer {
     let kind = call.kind;
     match kind {
         2 => sheet_build(store, table),
@@ -83,7 +83,7 @@ pub fn perform(call: Call, table: &[u32], store: &mut [u32]) -> Answer {
 // What read answers for the diagram of an accepted call, at a sheet of the grid.
 fn compare_read(
     run: Run,
-    call: Call,
+    call: Row,
     table: &[u32],
     store: &[u32],
     handle: u32,
@@ -96,7 +96,7 @@ fn compare_read(
 }
 
 // The same at every sixteenth sheet, from the fourth on.
-fn compare_reads(mut run: Run, call: Call, table: &[u32], store: &[u32], handle: u32) -> Run {
+fn compare_reads(mut run: Run, call: Row, table: &[u32], store: &[u32], handle: u32) -> Run {
     let sheets = sheets_of(fields(store)) % 1024;
     for i in 0..(sheets + 12) / 16 {
         run = compare_read(run, call, table, store, handle, 16 * i + 3);
@@ -105,22 +105,28 @@ fn compare_reads(mut run: Run, call: Call, table: &[u32], store: &[u32], handle:
 }
 
 // The diagram of an accepted call against the meaning that it stands for, at all sheets of the grid. Its handle is entered into the ledger.
-fn compare_sheets(run: Run, call: Call, table: &[u32], store: &[u32], found: Answer) -> Run {
-    if found.number != 0 {
-        return run;
-    }
-    let differ = differences(call, table, store, found.result);
-    let compared = count(enter(run, found.result), sheets_of(fields(store)), differ);
-    compare_reads(compared, call, table, store, found.result)
+fn compare_sheets(mut run: Run, call: Row, table: &[u32], store: &[u32], handle: u32) -> Run {
+    let differ = differences(call, table, store, handle);
+    run = enter(run, handle);
+    run = count(run, sheets_of(fields(store)), differ);
+    compare_reads(run, call, table, store, handle)
 }
 
-pub fn try_call(run: Run, call: Call, table: &[u32], store: &mut [u32]) -> Run {
+fn compare_accepted(run: Run, call: Row, table: &[u32], store: &[u32], found: Answer) -> Run {
+    let number = found.number;
+    match number {
+        0 => compare_sheets(run, call, table, store, found.result),
+        _ => run,
+    }
+}
+
+fn try_call(mut run: Run, call: Row, table: &[u32], store: &mut [u32]) -> Run {
     let mut words = [0u32; 1024];
     let expected = expect_added(call, table, store, &mut words);
     let found = perform(call, table, store);
-    let answered = expect_answer(run, found, expected);
-    let compared = agree(answered, same_words(store, &words));
-    compare_sheets(compared, call, table, store, found)
+    run = expect_answer(run, found, expected);
+    run = agree(run, same_words(store, &words));
+    compare_accepted(run, call, table, store, found)
 }
 
 // One generated call.

@@ -69,27 +69,14 @@ pub fn filled(entries: u32) -> [u32; FULL_WORDS] {
     store
 }
 
-// A question number before those of two handles.
-fn before(store: &[u32], a: u32, b: u32) -> u32 {
-    let first = asked_by(store, a);
-    let second = asked_by(store, b);
-    if first < second {
-        return before_one(first);
-    }
-    before_one(second)
+fn smaller(a: u32, b: u32) -> u32 {
+    if a < b { a } else { b }
 }
 
-fn before_one(question: u32) -> u32 {
-    if question == 0 {
-        return 0;
-    }
-    question - 1
-}
-
-// An entry over two handles, of which the second may be a leaf.
+// An entry over two handles, of which the second may be a leaf: its question number is one less than the smaller of theirs.
 fn write_over(store: &mut [u32], entry: u32, yes: u32, no: u32) {
-    let question = before(store, yes, no);
-    put_entry(store, entry, question, yes, no);
+    let next = smaller(asked_by(store, yes), asked_by(store, no));
+    put_entry(store, entry, (next % 32 + 31) % 32, yes, no);
 }
 
 // Each next entry is over the next two handles that have none above them.

@@ -11,13 +11,13 @@ use crate::run::Run;
 use crate::run::agree;
 use crate::run::expect_answer;
 use crate::writing::ask_written;
-use evaluator::call_of;
 use evaluator::copy;
 use evaluator::covers;
 use evaluator::is_sound;
 use evaluator::part;
 use evaluator::put;
 use evaluator::refused;
+use evaluator::row_of;
 use evaluator::same_words;
 
 // A sound store to break: case 6's, with room for one entry more, and one word left over.
@@ -116,40 +116,38 @@ fn broken(way: u64) -> [u32; 25] {
 
 // A call that adds, of handles that are there or not.
 fn refuse_call(run: Run, kind: u32, store: &mut [u32]) -> Run {
-    let found = perform(call_of(kind, 9, 0, 1), &[7, 7, 7], store);
+    let found = perform(row_of(kind, 9, 0, 1), &[7, 7, 7], store);
     expect_answer(run, found, refused(22))
 }
 
-fn refuse_calls(mut run: Run, store: &mut [u32]) -> Run {
-    for kind in 2..6u32 {
-        run = refuse_call(run, kind, store);
-    }
-    run
-}
-
 // The four calls that add, on a copy of the words, of which none changes.
-fn refuse_copy(run: Run, store: &[u32], words: &mut [u32]) -> Run {
+fn refuse_calls(mut run: Run, store: &[u32], words: &mut [u32]) -> Run {
     copy(store, words);
-    let called = refuse_calls(run, words);
-    agree(called, same_words(store, words))
+    for kind in 2..6u32 {
+        run = refuse_call(run, kind, words);
+    }
+    agree(run, same_words(store, words))
 }
 
 // All calls on words that the evaluator doesn't take for a sound store.
-pub fn refuse_all(run: Run, store: &[u32]) -> Run {
+pub fn refuse_all(mut run: Run, store: &[u32]) -> Run {
     let mut words = [0u32; FULL_WORDS];
     let end = store.len();
     if end > FULL_WORDS {
         return run;
     }
-    let called = refuse_copy(run, store, &mut words[0..end]);
-    let read = ask_read(ask_verdict(called, store, 9), store, 9, &[1]);
-    ask_written(ask_example(read, store, 9, 3), store, 9, 2)
+    run = ask_verdict(run, store, 9);
+    run = ask_read(run, store, 9, &[1]);
+    run = ask_example(run, store, 9, 3);
+    run = ask_written(run, store, 9, 2);
+    refuse_calls(run, store, &mut words[0..end])
 }
 
 pub fn try_all_broken(mut run: Run) -> Run {
     for way in 0..23u64 {
         let store = broken(way);
-        run = refuse_all(agree(run, !is_sound(&store)), &store);
+        run = agree(run, !is_sound(&store));
+        run = refuse_all(run, &store);
     }
     run
 }
@@ -178,12 +176,12 @@ fn throw_word(seed: u64) -> Thrown {
 
 fn ask_changed(run: Run, store: &[u32]) -> Run {
     if !is_sound(store) {
-        return refuse_all(run, store);
+        refuse_all(run, store)
+    } else if covers(store) {
+        ask_handles(run, store)
+    } else {
+        run
     }
-    if covers(store) {
-        return ask_handles(run, store);
-    }
-    run
 }
 
 // The words of a store, one of them changed if it is there, and zeros after them.

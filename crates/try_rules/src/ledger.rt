@@ -17,7 +17,8 @@ pub fn enter(mut run: Run, handle: u32) -> Run {
 // The ledger of a store that has just been opened.
 pub fn open_ledger(mut run: Run) -> Run {
     run.entered = 0;
-    enter(enter(run, 0), 1)
+    run = enter(run, 0);
+    enter(run, 1)
 }
 
 // A handle with those before it.

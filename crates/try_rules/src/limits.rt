@@ -13,6 +13,7 @@ use crate::writing::ask_written;
 use crate::writing::write_back;
 use evaluator::Answer;
 use evaluator::accepted;
+use evaluator::all_are;
 use evaluator::is_sound;
 use evaluator::part;
 use evaluator::refused;
@@ -23,17 +24,18 @@ use sheet::sheet_negate;
 use sheet::sheet_open;
 
 // A list, and the number that opening gives.
-fn open_questions(run: Run, list: &[u32], expected: u32) -> Run {
+fn open_questions(mut run: Run, list: &[u32], expected: u32) -> Run {
     let mut store = [7u32; 50];
-    let opened = open_and_compare(run, 1, list, &mut store);
+    run = open_and_compare(run, 1, list, &mut store);
     let found = sheet_open(1, list, &mut store);
-    expect_number(opened, found.number, expected)
+    expect_number(run, found.number, expected)
 }
 
 // 20 questions, and 21.
-pub fn try_questions(run: Run) -> Run {
+pub fn try_questions(mut run: Run) -> Run {
     let list = steps_list();
-    open_questions(open_questions(run, part(&list, 0, 40), 0), &list, 13)
+    run = open_questions(run, part(&list, 0, 40), 0);
+    open_questions(run, &list, 13)
 }
 
 // 257 rows of kind 1.
@@ -45,66 +47,74 @@ fn all_always() -> [u32; 1028] {
     table
 }
 
+fn build_expecting(run: Run, store: &mut [u32], table: &[u32], expected: Answer) -> Run {
+    expect_answer(run, sheet_build(store, table), expected)
+}
+
 // 256 rows, and 257.
-pub fn try_rows(run: Run) -> Run {
+pub fn try_rows(mut run: Run) -> Run {
     let table = all_always();
     let mut store = [0u32; 3];
-    let most = sheet_build(&mut store, part(&table, 0, 1024));
-    let more = sheet_build(&mut store, &table);
-    let built = expect_answer(expect_answer(run, most, accepted(1)), more, refused(33));
-    agree(built, same_words(&store, &[0, 0, 0]))
+    run = build_expecting(run, &mut store, part(&table, 0, 1024), accepted(1));
+    run = build_expecting(run, &mut store, &table, refused(33));
+    agree(run, all_are(&store, 0))
 }
 
 // The equation of two terms as a rule.
 fn build_equation(run: Run, store: &mut [u32], a: u32, b: u32, expected: Answer) -> Run {
-    expect_answer(run, sheet_build(store, &[2, a, b, 0]), expected)
+    build_expecting(run, store, &[2, a, b, 0], expected)
 }
 
 // 1 = 0 takes the last entry, and again none.
-fn fill_last(run: Run, store: &mut [u32]) -> Run {
-    let first = build_equation(run, store, 1, 0, accepted(4097));
-    build_equation(first, store, 1, 0, accepted(4097))
+fn fill_last(mut run: Run, store: &mut [u32]) -> Run {
+    run = build_equation(run, store, 1, 0, accepted(4097));
+    build_equation(run, store, 1, 0, accepted(4097))
 }
 
 // In the full store its negation and 1 = S(0) have no room; never needs none.
-fn add_to_full(run: Run, store: &mut [u32]) -> Run {
-    let next = build_equation(run, store, 1, 32, refused(51));
-    let not = expect_answer(next, sheet_negate(store, 4097), refused(51));
-    build_equation(not, store, 33, 0, accepted(0))
+fn add_to_full(mut run: Run, store: &mut [u32]) -> Run {
+    run = build_equation(run, store, 1, 32, refused(51));
+    run = expect_answer(run, sheet_negate(store, 4097), refused(51));
+    build_equation(run, store, 33, 0, accepted(0))
 }
 
 // 4,096 entries: only the last of them is added.
-fn try_full(run: Run, store: &mut [u32]) -> Run {
-    let sound = agree(run, is_sound(store));
-    let called = add_to_full(fill_last(sound, store), store);
-    let told = agree(called, used(store) == 4096);
-    agree(told, same_words(store, &filled(4096)))
+fn try_full(mut run: Run, store: &mut [u32]) -> Run {
+    run = fill_last(run, store);
+    run = add_to_full(run, store);
+    run = agree(run, used(store) == 4096);
+    agree(run, same_words(store, &filled(4096)))
 }
 
 // An entry more makes no sound store, however long it is.
-pub fn try_entries(run: Run) -> Run {
+fn try_overfull(mut run: Run) -> Run {
+    let store = filled(4097);
+    run = agree(run, !is_sound(&store));
+    refuse_all(run, &store)
+}
+
+pub fn try_entries(mut run: Run) -> Run {
     let mut store = filled(4095);
-    let told = try_full(run, &mut store);
-    let over = filled(4097);
-    refuse_all(agree(told, !is_sound(&over)), &over)
+    run = agree(run, is_sound(&store));
+    run = try_full(run, &mut store);
+    try_overfull(run)
 }
 
 // A handle written back into so many words, and the rows that are to come out.
-fn write_expecting(run: Run, store: &[u32], handle: u32, length: usize, rows: u32) -> Run
+fn write_expecting(mut run: Run, store: &[u32], handle: u32, length: usize, rows: u32) -> Run
     requires { ⌜ length ≤ 1024 ⌝ }
 {
     let written = write_back(store, handle, length);
-    agree(
-        ask_written(run, store, handle, length),
-        written.rows == rows,
-    )
+    run = ask_written(run, store, handle, length);
+    agree(run, written.rows == rows)
 }
 
 // 127 entries written back are 256 rows; 128 are too many.
-pub fn try_written(run: Run) -> Run {
-    let store = tree();
-    let sound = agree(run, is_sound(&store));
-    let most = write_expecting(sound, &store, 128, 1024, 256);
-    let short = write_expecting(most, &store, 128, 1023, 0);
-    write_expecting(short, &store, 129, 1024, 0)
+pub fn try_written(mut run: Run) -> Run {
+    let array = tree();
+    let store: &[u32] = &array;
+    run = agree(run, is_sound(store));
+    run = write_expecting(run, store, 128, 1024, 256);
+    run = write_expecting(run, store, 128, 1023, 0);
+    write_expecting(run, store, 129, 1024, 0)
 }

@@ -19,20 +19,22 @@ struct Pair {
     right: u32,
 }
 
-// The c-th of all questions over three fields with gaps up to 3, in the order of questions: left field, right field, and the steps, 0 to 3 on
-// the right and then 1 to 3 on the left. Some are none, as their right field is not smaller, or they have steps to the left of zero.
+// The c-th of all pairs of three fields with gaps up to 3, in the order of questions: left field, right field, and the steps, 0 to 3 on the
+// right and then 1 to 3 on the left. Some are no questions, as their right field is not smaller, or they have steps to the left of zero.
 fn pair_at(c: u32) -> Pair {
     let left = c / 21 % 3 + 1;
     let right = c / 7 % 3;
-    if c % 7 < 4 {
-        return Pair {
+    let step = c % 7;
+    if step < 4 {
+        Pair {
             left: left,
-            right: right + c % 7 * 32,
-        };
-    }
-    Pair {
-        left: left + (c % 7 - 3) * 32,
-        right: right,
+            right: right + step * 32,
+        }
+    } else {
+        Pair {
+            left: left + (step - 3) * 32,
+            right: right,
+        }
     }
 }
 

@@ -30,17 +30,20 @@ use crate::run::begun;
 use crate::simplifying::try_equations;
 
 // What is generated: equations, lists, and calls.
-fn run_generated(run: Run) -> Run {
-    let simplified = print_part(try_equations(run), b"equations");
-    let opened = print_part(list_rounds(simplified), b"lists");
-    print_part(store_rounds(opened), b"calls")
+fn run_generated(mut run: Run) -> Run {
+    run = print_part(try_equations(run), b"equations");
+    run = print_part(list_rounds(run), b"lists");
+    print_part(store_rounds(run), b"calls")
 }
 
 // What is made by hand.
-fn run_made(run: Run) -> Run {
-    let refused = print_part(try_all_cut(try_all_broken(run)), b"hostile stores");
-    let opened = try_rows(try_questions(refused));
-    print_part(try_written(try_entries(opened)), b"limits")
+fn run_made(mut run: Run) -> Run {
+    run = try_all_broken(run);
+    run = print_part(try_all_cut(run), b"hostile stores");
+    run = try_questions(run);
+    run = try_rows(run);
+    run = try_entries(run);
+    print_part(try_written(run), b"limits")
 }
 
 fn main() {

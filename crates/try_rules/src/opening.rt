@@ -8,12 +8,12 @@ use evaluator::part;
 use evaluator::same_words;
 use sheet::sheet_open;
 
-pub fn open_and_compare(run: Run, n: u32, list: &[u32], store: &mut [u32]) -> Run {
+pub fn open_and_compare(mut run: Run, n: u32, list: &[u32], store: &mut [u32]) -> Run {
     let mut words = [0u32; 512];
     let expected = expect_opened(n, list, store, &mut words);
     let found = sheet_open(n, list, store);
-    let told = expect_number(run, found.number, expected);
-    agree(told, same_words(store, &words))
+    run = expect_number(run, found.number, expected);
+    agree(run, same_words(store, &words))
 }
 
 // A generated list.

@@ -50,17 +50,20 @@ fn throw_length(list: List) -> Thrown
 }
 
 // What is asked of a store after its calls, and once more when a word is changed.
-fn ask_store(run: Run, store: &[u32]) -> Run {
-    let sound = agree(compare_pairs(run, store), is_sound(store));
-    let asked = ask_handles(sound, store);
-    try_changed(write_handles(asked, store), store)
+fn ask_store(mut run: Run, store: &[u32]) -> Run {
+    run = compare_pairs(run, store);
+    run = agree(run, is_sound(store));
+    run = ask_handles(run, store);
+    run = write_handles(run, store);
+    try_changed(run, store)
 }
 
 // The calls on a store with a list.
-fn try_store(run: Run, list: List, store: &mut [u32]) -> Run {
-    let opened = open_ledger(open_list(run, list, store));
-    let called = try_calls(opened, store);
-    ask_store(called, store)
+fn try_store(mut run: Run, list: List, store: &mut [u32]) -> Run {
+    run = open_list(run, list, store);
+    run = open_ledger(run);
+    run = try_calls(run, store);
+    ask_store(run, store)
 }
 
 // One generated store with its list.

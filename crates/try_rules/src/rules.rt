@@ -1,8 +1,11 @@
 // Generated rule tables over a store's list, most of them good.
+use crate::chance::Thrown;
 use crate::chance::throw;
+use evaluator::Row;
 use evaluator::left_of;
 use evaluator::questions;
 use evaluator::right_of;
+use evaluator::row_of;
 
 // A table of up to sixteen rows, how many of its words there are, and the seed after it.
 pub struct Table {
@@ -12,38 +15,36 @@ pub struct Table {
 }
 
 // A row, and the seed after it.
-struct Row {
-    kind: u32,
-    a: u32,
-    b: u32,
-    c: u32,
+struct Line {
+    row: Row,
     seed: u64,
 }
 
+// One of the first sixteen rows.
 fn put_row(mut table: Table, r: u32, row: Row) -> Table {
-    let place = 4 * (r as usize);
-    table.seed = row.seed;
-    if place < 61 {
-        table.words[place] = row.kind;
-        table.words[place + 1] = row.a;
-        table.words[place + 2] = row.b;
-        table.words[place + 3] = row.c;
-    }
+    let place = 4 * (r as usize % 16);
+    table.words[place] = row.kind;
+    table.words[place + 1] = row.a;
+    table.words[place + 2] = row.b;
+    table.words[place + 3] = row.c;
     table
 }
 
-fn equation(left: u32, right: u32, seed: u64) -> Row {
-    Row {
+fn equation(left: u32, right: u32, seed: u64) -> Line {
+    let row = Row {
         kind: 2,
         a: left,
         b: right,
         c: 0,
+    };
+    Line {
+        row: row,
         seed: seed,
     }
 }
 
 // A question of the list as an equation: with some steps more on both sides, and perhaps turned round.
-fn throw_listed(seed: u64, store: &[u32]) -> Row {
+fn throw_listed(seed: u64, store: &[u32]) -> Line {
     let k = throw(seed, questions(store));
     let more = throw(k.seed, 3);
     let round = throw(more.seed, 2);
@@ -56,7 +57,7 @@ fn throw_listed(seed: u64, store: &[u32]) -> Row {
 }
 
 // An equation that may be on the list or not: terms of a field up to 4, which may be too large, and up to 2 steps.
-fn throw_equation(seed: u64) -> Row {
+fn throw_equation(seed: u64) -> Line {
     let field = throw(seed, 5);
     let steps = throw(field.seed, 3);
     let other = throw(steps.seed, 5);
@@ -69,77 +70,83 @@ fn throw_equation(seed: u64) -> Row {
 }
 
 // A row of a kind that may be unknown, with small columns.
-fn throw_junk(seed: u64) -> Row {
+fn throw_junk(seed: u64) -> Line {
     let kind = throw(seed, 8);
     let a = throw(kind.seed, 4);
     let b = throw(a.seed, 4);
     let c = throw(b.seed, 3);
-    Row {
+    let row = Row {
         kind: kind.number,
         a: a.number,
         b: b.number,
         c: c.number,
+    };
+    Line {
+        row: row,
         seed: c.seed,
     }
 }
 
 // Not, and, or if-then-else of lower rows.
-fn throw_combined(seed: u64, r: u32) -> Row {
+fn throw_combined(seed: u64, r: u32) -> Line {
     let kind = throw(seed, 3);
     let a = throw(kind.seed, r);
     let b = throw(a.seed, r);
     let c = throw(b.seed, r);
-    let mut row = Row {
-        kind: 3 + kind.number,
-        a: a.number,
-        b: 0,
-        c: 0,
+    Line {
+        row: row_of(3 + kind.number, a.number, b.number, c.number),
         seed: c.seed,
-    };
-    if kind.number > 0 {
-        row.b = b.number;
     }
-    if kind.number > 1 {
-        row.c = c.number;
-    }
-    row
 }
 
-fn throw_leaf(seed: u64) -> Row {
+fn throw_leaf(seed: u64) -> Line {
     let kind = throw(seed, 2);
-    Row {
+    let row = Row {
         kind: kind.number,
         a: 0,
         b: 0,
         c: 0,
+    };
+    Line {
+        row: row,
         seed: kind.seed,
     }
 }
 
-// A row that refers to no other.
-fn throw_first(seed: u64, store: &[u32]) -> Row {
+// A row that refers to no other: mostly a question of the list, if it has any.
+fn throw_first(seed: u64, store: &[u32]) -> Line {
     if questions(store) == 0 {
-        return throw_leaf(seed);
+        throw_leaf(seed)
+    } else {
+        throw_question(throw(seed, 12), store)
     }
-    let listed = throw(seed, 12);
-    if listed.number == 0 {
-        return throw_leaf(listed.seed);
-    }
-    throw_listed(listed.seed, store)
 }
 
-fn throw_good(seed: u64, store: &[u32], r: u32) -> Row {
+fn throw_question(thrown: Thrown, store: &[u32]) -> Line {
+    if thrown.number == 0 {
+        throw_leaf(thrown.seed)
+    } else {
+        throw_listed(thrown.seed, store)
+    }
+}
+
+fn throw_good(seed: u64, store: &[u32], r: u32) -> Line {
     if r == 0 {
-        return throw_first(seed, store);
+        throw_first(seed, store)
+    } else {
+        throw_later(throw(seed, 5), store, r)
     }
-    let combined = throw(seed, 5);
-    if combined.number > 1 {
-        return throw_combined(combined.seed, r);
-    }
-    throw_first(combined.seed, store)
 }
 
-fn throw_row(seed: u64, store: &[u32], r: u32) -> Row {
+fn throw_later(thrown: Thrown, store: &[u32], r: u32) -> Line {
+    if thrown.number > 1 {
+        throw_combined(thrown.seed, r)
+    } else {
+        throw_first(thrown.seed, store)
+    }
+}
+
+fn throw_row(seed: u64, store: &[u32], r: u32) -> Line {
     let good = throw(seed, 80);
     let way = good.number;
     match way {
@@ -157,7 +164,9 @@ fn throw_rows(seed: u64, store: &[u32], rows: u32) -> Table {
         seed: seed,
     };
     for r in 0..rows {
-        table = put_row(table, r, throw_row(table.seed, store, r));
+        let line = throw_row(table.seed, store, r);
+        table = put_row(table, r, line.row);
+        table.seed = line.seed;
     }
     table
 }

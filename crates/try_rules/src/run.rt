@@ -35,16 +35,13 @@ pub fn agree(run: Run, same: bool) -> Run {
 
 // A number that was found against the one that was expected.
 pub fn expect_number(mut run: Run, found: u32, expected: u32) -> Run {
-    if found < 64 {
-        run.met[found as usize] = run.met[found as usize] % 1000000000 + 1;
-    }
+    let place = (found % 64) as usize;
+    run.met[place] = run.met[place] % 1000000000 + 1;
     agree(run, found == expected)
 }
 
 // An answer that was found against the one that was expected.
-pub fn expect_answer(run: Run, found: sheet::Answer, expected: evaluator::Answer) -> Run {
-    agree(
-        expect_number(run, found.number, expected.number),
-        found.result == expected.result,
-    )
+pub fn expect_answer(mut run: Run, found: sheet::Answer, expected: evaluator::Answer) -> Run {
+    run = expect_number(run, found.number, expected.number);
+    agree(run, found.result == expected.result)
 }

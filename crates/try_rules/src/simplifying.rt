@@ -100,13 +100,15 @@ fn compare_sheets(mut run: Run, left: u32, right: u32, a: SimplifyAnswer) -> Run
     run
 }
 
-fn compare_equation(run: Run, left: u32, right: u32) -> Run {
+fn compare_equation(mut run: Run, left: u32, right: u32) -> Run {
     let a = sheet_simplify(left, right);
-    let formed = agree(run, is_formed(a));
+    run = agree(run, is_formed(a));
     if bad_term(16, left) | bad_term(16, right) {
-        return expect_number(formed, a.number, 35);
+        expect_number(run, a.number, 35)
+    } else {
+        run = expect_number(run, a.number, 0);
+        compare_sheets(run, left, right, a)
     }
-    compare_sheets(expect_number(formed, a.number, 0), left, right, a)
 }
 
 fn try_thrown(mut run: Run) -> Run {
@@ -125,7 +127,8 @@ fn try_low(mut run: Run) -> Run {
 
 pub fn try_equations(mut run: Run) -> Run {
     for i in 0..1000u32 {
-        run = try_low(try_thrown(run));
+        run = try_thrown(run);
+        run = try_low(run);
     }
     run
 }

@@ -8,12 +8,12 @@ use crate::run::expect_answer;
 use crate::run::expect_number;
 use evaluator::accepted;
 use evaluator::all_are;
-use evaluator::call_of;
 use evaluator::copy;
 use evaluator::differences;
 use evaluator::expect_written;
 use evaluator::fields;
 use evaluator::part;
+use evaluator::row_of;
 use evaluator::same_words;
 use evaluator::sheets_of;
 use evaluator::table_fault;
@@ -41,24 +41,33 @@ pub fn write_back(store: &[u32], handle: u32, length: usize) -> Written
 }
 
 // What was written into so many words: number and rows, the words after the rows, and the meaning of the rows.
-fn compare_written(run: Run, store: &[u32], handle: u32, length: usize, written: Written) -> Run {
+fn compare_written(
+    mut run: Run,
+    store: &[u32],
+    handle: u32,
+    length: usize,
+    written: Written,
+) -> Run {
     let expected = expect_written(store, handle, length);
     let array = written.words;
     let words: &[u32] = &array;
     let end = 4 * (written.rows as usize);
     let same = written.rows == expected.result;
     let kept = all_are(part(words, end, 1024), 7);
-    let told = expect_number(run, written.number, expected.number);
-    if expected.number != 0 {
-        return agree(told, same & kept);
+    run = expect_number(run, written.number, expected.number);
+    if expected.number == 0 {
+        run = agree(run, same);
+        run = agree(run, kept);
+        compare_rows(run, store, handle, part(words, 0, end))
+    } else {
+        agree(run, same & kept)
     }
-    let build = call_of(2, 0, 0, 0);
-    let differ = differences(build, part(words, 0, end), store, handle);
-    count(
-        agree(agree(told, same), kept),
-        sheets_of(fields(store)),
-        differ,
-    )
+}
+
+// The rows written back mean what the handle means.
+fn compare_rows(run: Run, store: &[u32], handle: u32, table: &[u32]) -> Run {
+    let differ = differences(row_of(2, 0, 0, 0), table, store, handle);
+    count(run, sheets_of(fields(store)), differ)
 }
 
 // Writes back into so many words, and compares.
@@ -74,24 +83,22 @@ pub fn ask_written(run: Run, store: &[u32], handle: u32, length: usize) -> Run
     )
 }
 
-fn build_copy(run: Run, store: &[u32], handle: u32, table: &[u32], words: &mut [u32]) -> Run {
+fn build_copy(mut run: Run, store: &[u32], handle: u32, table: &[u32], words: &mut [u32]) -> Run {
     let found = sheet_build(words, table);
-    agree(
-        expect_answer(run, found, accepted(handle)),
-        same_words(store, words),
-    )
+    run = expect_answer(run, found, accepted(handle));
+    agree(run, same_words(store, words))
 }
 
 // Builds a written rule again, on a copy of the store: the handle is the same, and no word changes.
-fn build_again(run: Run, store: &[u32], handle: u32, table: &[u32]) -> Run {
+fn build_again(mut run: Run, store: &[u32], handle: u32, table: &[u32]) -> Run {
     let mut words = [0u32; 512];
     let end = store.len();
-    let checked = agree(run, table_fault(store, table) == 0);
+    run = agree(run, table_fault(store, table) == 0);
     copy(store, &mut words);
     if end > 512 {
-        return checked;
+        return run;
     }
-    build_copy(checked, store, handle, table, &mut words[0..end])
+    build_copy(run, store, handle, table, &mut words[0..end])
 }
 
 // Writes a handle back that a call returned, and builds it again.
@@ -100,13 +107,13 @@ fn write_thrown(mut run: Run, store: &[u32], handle: u32) -> Run {
     let length = within(thrown.number as usize);
     run.seed = thrown.seed;
     let written = write_back(store, handle, length);
-    let compared = compare_written(run, store, handle, length, written);
+    run = compare_written(run, store, handle, length, written);
     let words = written.words;
-    let end = 4 * (written.rows as usize);
-    if end == 0 {
-        return compared;
+    let rows = written.rows;
+    match rows {
+        0 => run,
+        _ => build_again(run, store, handle, part(&words, 0, 4 * (rows as usize))),
     }
-    build_again(compared, store, handle, part(&words, 0, end))
 }
 
 // So many words, or all there are.

@@ -7,10 +7,13 @@ use Rattle.try_rules.proofs.hostile.refuse_calls.Statement.{statement}
 use Rattle.try_rules.proofs.hostile.refuse_calls.Tie as tie
 
 abbrev Inv-loop : tie.InvT-loop
-Inv-loop run₀ store₀ kind₀ run store kind = (kind ≤ 6) × (length store ≡ length store₀)
+Inv-loop run₀ store words₀ kind₀ run words kind = (kind ≤ 6) × (length words ≡ length words₀)
 
 abbrev μ-loop : tie.MeasureT-loop
-μ-loop run₀ store₀ kind₀ run store kind = 6 - kind
+μ-loop run₀ store words₀ kind₀ run words kind = 6 - kind
+
+copy-requires : tie.Need-copy-requires Inv-loop μ-loop
+copy-requires c κs = search needs
 
 loop-holds : tie.Need-loop-holds Inv-loop μ-loop
 loop-holds c = search needs
@@ -27,6 +30,12 @@ loop-less c = search needs
 loop-again : tie.Need-loop-again Inv-loop μ-loop
 loop-again c = search needs
 
+same-words-requires : tie.Need-same-words-requires Inv-loop μ-loop
+same-words-requires c κs = search needs
+
+agree-requires : tie.Need-agree-requires Inv-loop μ-loop
+agree-requires c κs = search needs
+
 same-length : tie.Need-same-length Inv-loop μ-loop
 same-length c = search needs
 
@@ -39,10 +48,13 @@ refuse-calls-spec =
     (tie.spec
     Inv-loop
     μ-loop
+    copy-requires
     loop-holds
     refuse-call-requires
     add-kind
     loop-less
     loop-again
+    same-words-requires
+    agree-requires
     same-length
     returns)
