@@ -9,6 +9,7 @@ use crate::meaning::first_sheet;
 use crate::reaching::rows_of;
 use crate::sound::handle_fault;
 use crate::truth::handle_truth;
+use crate::words::same_counts;
 
 // Whether a handle has a truth at some sheet.
 fn ever(store: &[u32], handle: u32, truth: bool) -> bool {
@@ -43,8 +44,17 @@ pub fn expect_example(store: &[u32], handle: u32, length: usize) -> u32 {
 }
 
 // The least sheet that satisfies a handle.
-pub fn least_sheet(store: &[u32], handle: u32) -> [u16; 3] {
+fn least_sheet(store: &[u32], handle: u32) -> [u16; 3] {
     sheet_of(fields(store), first_sheet(store, handle, true))
+}
+
+// Whether example leaves these counts where all were 7: the least sheet that satisfies the handle, and the counts as they were where it refuses.
+pub fn is_example(store: &[u32], handle: u32, counts: &[u16]) -> bool {
+    let number = expect_example(store, handle, counts.len());
+    match number {
+        0 => same_counts(counts, &least_sheet(store, handle)),
+        _ => same_counts(counts, &[7, 7, 7, 7]),
+    }
 }
 
 // The result is the number of rows.

@@ -24,7 +24,7 @@ pub use asking::expect_example;
 pub use asking::expect_read;
 pub use asking::expect_verdict;
 pub use asking::expect_written;
-pub use asking::least_sheet;
+pub use asking::is_example;
 pub use calls::Row;
 pub use calls::call_fault;
 pub use calls::call_truth;

@@ -48,6 +48,22 @@ pub fn same_words(s: &[u32], t: &[u32]) -> bool {
     same
 }
 
+fn count_at(sheet: &[u16], place: usize) -> u16 {
+    if place < sheet.len() {
+        return sheet[place];
+    }
+    0
+}
+
+// Whether a sheet's counts are the first ones of another.
+pub fn same_counts(s: &[u16], t: &[u16]) -> bool {
+    let mut same = true;
+    for i in 0..s.len() {
+        same = same & (s[i] == count_at(t, i));
+    }
+    same
+}
+
 pub fn all_are(s: &[u32], word: u32) -> bool {
     let mut all = true;
     for i in 0..s.len() {

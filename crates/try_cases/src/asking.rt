@@ -1,4 +1,8 @@
-// The calls that leave the store as it is: each is made, and its answer printed.
+// The calls that leave the store as it is: each is made, and its answer printed and compared with the evaluator's. What simplify and write back
+// leave is compared by the generated calls of `try_rules`.
+use crate::comparing::knows;
+use crate::comparing::remark;
+use crate::comparing::same_answer;
 use crate::lines::Numbers;
 use crate::printing::answer;
 use crate::printing::counts;
@@ -6,7 +10,12 @@ use crate::printing::signed;
 use crate::printing::text;
 use crate::printing::word;
 use crate::printing::words;
+use evaluator::Answer;
+use evaluator::expect_example;
+use evaluator::expect_read;
+use evaluator::expect_verdict;
 use evaluator::first_counts;
+use evaluator::is_example;
 use sheet::sheet_example;
 use sheet::sheet_read;
 use sheet::sheet_simplify;
@@ -24,11 +33,25 @@ pub fn simplify(left: u32, right: u32) {
 }
 
 pub fn verdict(store: &[u32], handle: u32) {
-    answer(sheet_verdict(store, handle));
+    let found = sheet_verdict(store, handle);
+    answer(found);
+    remark(
+        knows(store),
+        same_answer(found, expect_verdict(store, handle)),
+    );
 }
 
 fn narrow(count: u32) -> u16 {
     (count % 65536) as u16
+}
+
+fn read_sheet(store: &[u32], handle: u32, sheet: &[u16]) {
+    let found = sheet_read(store, handle, sheet);
+    answer(found);
+    remark(
+        knows(store),
+        same_answer(found, expect_read(store, handle, sheet)),
+    );
 }
 
 // A handle, and a sheet of at most two counts.
@@ -37,13 +60,22 @@ pub fn read(store: &[u32], numbers: Numbers) {
     let sheet = [narrow(words[1]), narrow(words[2])];
     let count = numbers.count;
     if count > 0 {
-        answer(sheet_read(store, words[0], first_counts(&sheet, count - 1)));
+        read_sheet(store, words[0], first_counts(&sheet, count - 1));
     }
 }
 
 fn example_in(store: &[u32], handle: u32, sheet: &mut [u16]) {
-    answer(sheet_example(store, handle, sheet));
+    let expected = Answer {
+        number: expect_example(store, handle, sheet.len()),
+        result: 0,
+    };
+    let found = sheet_example(store, handle, sheet);
+    answer(found);
     counts(sheet);
+    remark(
+        knows(store),
+        same_answer(found, expected) & is_example(store, handle, sheet),
+    );
 }
 
 // Into so many counts that are all 7.

@@ -1,16 +1,81 @@
-// The calls that may change the store: each is made, and its answer printed, with the store afterwards.
+// The calls that may change the store: each is made, its answer printed with the store afterwards, and both compared with the evaluator's.
+use crate::comparing::knows;
+use crate::comparing::remark;
+use crate::comparing::same_answer;
 use crate::lending::Lent;
 use crate::lines::NO_BAR;
 use crate::lines::Numbers;
 use crate::printing::answer;
 use crate::printing::words;
+use evaluator::Row;
+use evaluator::expect_added;
+use evaluator::expect_opened;
 use evaluator::part;
+use evaluator::same_words;
+use evaluator::word_at;
 use sheet::Answer;
 use sheet::sheet_build;
 use sheet::sheet_choose;
 use sheet::sheet_join;
 use sheet::sheet_negate;
 use sheet::sheet_open;
+
+// The kind of row that a call stands for, by the first letter of its name; 0 for opening.
+fn kind_of(name: u8) -> u32 {
+    match name {
+        b'b' => 2,
+        b'n' => 3,
+        b'j' => 4,
+        b'c' => 5,
+        _ => 0,
+    }
+}
+
+fn call_of(name: u8, numbers: Numbers) -> Row {
+    let handles = numbers.words;
+    Row {
+        kind: kind_of(name),
+        a: handles[0],
+        b: handles[1],
+        c: handles[2],
+    }
+}
+
+// A list stands after the number of fields, and a rule table by itself.
+fn perform(call: Row, given: &[u32], store: &mut [u32]) -> Answer {
+    let kind = call.kind;
+    match kind {
+        0 => sheet_open(call.a, part(given, 1, given.len()), store),
+        2 => sheet_build(store, given),
+        3 => sheet_negate(store, call.a),
+        4 => sheet_join(store, call.a, call.b),
+        _ => sheet_choose(store, call.a, call.b, call.c),
+    }
+}
+
+fn expect(call: Row, given: &[u32], store: &[u32], after: &mut [u32]) -> evaluator::Answer {
+    if call.kind != 0 {
+        return expect_added(call, given, store, after);
+    }
+    evaluator::Answer {
+        number: expect_opened(call.a, part(given, 1, given.len()), store, after),
+        result: 0,
+    }
+}
+
+// The answer to opening depends on no word of the store.
+fn make(call: Row, given: &[u32], store: &mut [u32]) {
+    let mut after = [0u32; 64];
+    let known = (call.kind == 0) | knows(store);
+    let expected = expect(call, given, store, &mut after);
+    let found = perform(call, given, store);
+    answer(found);
+    words(store);
+    remark(
+        known,
+        same_answer(found, expected) & same_words(store, &after),
+    );
+}
 
 // 257 rows of kind 1.
 fn all_always() -> [u32; 1028] {
@@ -21,51 +86,31 @@ fn all_always() -> [u32; 1028] {
     table
 }
 
-fn build_always(store: &mut [u32], rows: u32) -> Answer {
-    sheet_build(store, part(&all_always(), 0, 4 * (rows as usize)))
+fn make_always(call: Row, rows: u32, store: &mut [u32]) {
+    make(call, part(&all_always(), 0, 4 * (rows as usize)), store);
 }
 
-// A rule table that stands after the bar, or one of so many rows of kind 1.
-fn build(store: &mut [u32], numbers: Numbers) -> Answer {
-    let table = numbers.words;
+// A call with what stands after the bar, or with so many rows of kind 1.
+fn make_given(name: u8, numbers: Numbers, store: &mut [u32]) {
+    let given = numbers.words;
+    let call = call_of(name, numbers);
     if numbers.bar == NO_BAR {
-        return build_always(store, table[0]);
-    }
-    sheet_build(store, part(&table, 0, numbers.count))
-}
-
-fn open(store: &mut [u32], numbers: Numbers) -> Answer {
-    let list = numbers.words;
-    sheet_open(list[0], part(&list, 1, numbers.count), store)
-}
-
-// A call by the first letter of its name.
-fn perform(name: u8, numbers: Numbers, store: &mut [u32]) -> Answer {
-    let words = numbers.words;
-    let a = words[0];
-    let b = words[1];
-    let c = words[2];
-    match name {
-        b'o' => open(store, numbers),
-        b'b' => build(store, numbers),
-        b'n' => sheet_negate(store, a),
-        b'j' => sheet_join(store, a, b),
-        _ => sheet_choose(store, a, b, c),
+        make_always(call, given[0], store);
+    } else {
+        make(call, part(&given, 0, numbers.count), store);
     }
 }
 
 // On the first words of what is lent.
-fn perform_within(name: u8, numbers: Numbers, store: &mut [u32], length: usize) {
-    if length > store.len() {
-        return;
+fn make_within(name: u8, numbers: Numbers, store: &mut [u32], length: usize) {
+    if length <= store.len() {
+        make_given(name, numbers, &mut store[0..length]);
     }
-    answer(perform(name, numbers, &mut store[0..length]));
-    words(part(store, 0, length));
 }
 
 pub fn change(mut lent: Lent, name: u8, numbers: Numbers) -> Lent {
     let mut store = lent.words;
-    perform_within(name, numbers, &mut store, lent.length);
+    make_within(name, numbers, &mut store, lent.length);
     lent.words = store;
     lent
 }

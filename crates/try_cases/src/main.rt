@@ -3,6 +3,7 @@
 mod asking;
 mod calls;
 mod changing;
+mod comparing;
 mod lending;
 mod lines;
 mod printing;

@@ -12,7 +12,7 @@ use evaluator::expect_read;
 use evaluator::expect_verdict;
 use evaluator::fields;
 use evaluator::first_counts;
-use evaluator::least_sheet;
+use evaluator::is_example;
 use sheet::sheet_example;
 use sheet::sheet_read;
 use sheet::sheet_verdict;
@@ -33,34 +33,11 @@ pub fn ask_read(run: Run, store: &[u32], handle: u32, sheet: &[u16]) -> Run {
     )
 }
 
-// Up to four counts as one number.
-fn packed(counts: &[u16]) -> u64 {
-    let mut number = 0;
-    for i in 0..counts.len() {
-        number = appended(number, counts[i]);
-    }
-    number
-}
-
-fn appended(number: u64, count: u16) -> u64 {
-    number % 281474976710656 * 65536 + count as u64
-}
-
-// The least satisfying sheet where there is one, and the counts as they were where there is none.
-fn is_least(store: &[u32], handle: u32, number: u32, counts: &[u16]) -> bool {
-    let n = counts.len();
-    let expected = match number {
-        0 => packed(first_counts(&least_sheet(store, handle), n)),
-        _ => packed(first_counts(&[7, 7, 7, 7], n)),
-    };
-    packed(counts) == expected
-}
-
 fn compare_example(mut run: Run, store: &[u32], handle: u32, counts: &mut [u16]) -> Run {
     let expected = expect_example(store, handle, counts.len());
     let found = sheet_example(store, handle, counts);
     run = expect_number(run, found.number, expected);
-    agree(run, is_least(store, handle, expected, counts))
+    agree(run, is_example(store, handle, counts))
 }
 
 // An example in a slice of so many counts.

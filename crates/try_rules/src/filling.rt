@@ -1,7 +1,6 @@
 // Hand-made sound stores over the questions 1 = 0 to 1 = S19(0), with many entries.
 ghost use Prim.Native.Nat.{_<_};
 use evaluator::asked_by;
-use evaluator::part;
 use evaluator::put;
 use evaluator::put_entry;
 use evaluator::write_opened;
@@ -9,10 +8,10 @@ use evaluator::write_opened;
 // The words of a store with 20 questions and room for 4,096 entries, and twenty more, so that the limit and not the length binds.
 pub const FULL_WORDS: usize = 12351;
 
-// The questions 1 = 0, 1 = S(0) and so on, 21 of them.
-pub fn steps_list() -> [u32; 42] {
-    let mut list = [1u32; 42];
-    for i in 0..21u32 {
+// The questions 1 = 0, 1 = S(0) and so on, 20 of them.
+fn steps_list() -> [u32; 40] {
+    let mut list = [1u32; 40];
+    for i in 0..20u32 {
         list[2 * (i as usize) + 1] = 32 * i;
     }
     list
@@ -20,7 +19,7 @@ pub fn steps_list() -> [u32; 42] {
 
 // The heading and the list, with so many entries used.
 fn write_heading(store: &mut [u32], used: u32) {
-    write_opened(1, part(&steps_list(), 0, 40), store);
+    write_opened(1, &steps_list(), store);
     put(store, 2, used);
 }
 

@@ -18,8 +18,6 @@ mod writing;
 use crate::hostile::try_all_broken;
 use crate::hostile::try_all_cut;
 use crate::limits::try_entries;
-use crate::limits::try_questions;
-use crate::limits::try_rows;
 use crate::limits::try_written;
 use crate::printing::print_part;
 use crate::printing::print_refusals;
@@ -40,8 +38,6 @@ fn run_generated(mut run: Run) -> Run {
 fn run_made(mut run: Run) -> Run {
     run = try_all_broken(run);
     run = print_part(try_all_cut(run), b"hostile stores");
-    run = try_questions(run);
-    run = try_rows(run);
     run = try_entries(run);
     print_part(try_written(run), b"limits")
 }
