@@ -35,6 +35,14 @@ first-of (suc d) p x y h g t = by-test (λ c. (p (cond c x (first-from d p (suc 
 can-count-so : (s : State) (v : Valuation) (f : ℕ) → Fit s v → can-count s f (at v f) ≡ true
 can-count-so s v f k = fit-free (yes-to s (counts f (at v f))) v (yes-in s (counts f (at v f)) v k (counts-true v f (at v f) refl))
 
+-- a possible count is that of some choice that fits
+pub count-fits : (s : State) → ZeroKept (s .classes) → (f x : ℕ) → can-count s f x ≡ true → (v : Valuation) × Fit s v × (at v f ≡ x)
+count-fits s z f x t =
+    let q = counts f x in
+    let v = some-sheet (yes-to s q) in
+    let k = yes-out s q v (free-fit (yes-to s q) (work-in-zero s q true z) t) in
+    (v, k .0, counts-says v f x (k .1))
+
 module _ (s : State) (z : ZeroKept (s .classes)) (t : free s ≡ true) (f : ℕ) where
   found : (can-count s f (least-count s f) ≡ true) × (least-count s f ≤ at (some-sheet s) f)
   found = first-of (at (some-sheet s) f) (can-count s f) 0 (at (some-sheet s) f) (omega arith) (omega arith) (can-count-so s (some-sheet s) f (free-fit s z t))

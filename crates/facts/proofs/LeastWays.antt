@@ -9,7 +9,6 @@ use native.Mathlib.Decide.{ℕ-discrete}
 use lib.ListN.{length, getD, set, length-set}
 use lib.Seq.{getD-set-same, getD-set-other}
 use Rattle.terms.specs.declared.term.Equation.{Equation}
-use Rattle.terms.specs.Meaning.{Valuation}
 use Rattle.facts.specs.declared.least.Fixed.{Fixed}
 use Rattle.facts.specs.declared.record.Facts.{Facts}
 use Rattle.facts.specs.declared.working.Worked.{Worked}
@@ -18,11 +17,10 @@ use Rattle.facts.specs.Least.{counts, can-count, least-count, fixed, lea
 use Rattle.facts.specs.Needs.{Askable, CanFix, FixedAt, HasLeast}
 use Rattle.facts.specs.Record.{state, last-field, field-places, most-noes, Small, AllSmall, Holds, WorkedYes, LeastCounts}
 use Rattle.terms.specs.Limits.{most-count}
-use Rattle.facts.specs.State.{ZeroKept, State, at, Fit, free, yes-to, some-sheet}
+use Rattle.facts.specs.State.{ZeroKept, State, at, free, yes-to}
 use Rattle.facts.proofs.HeldFacts.{small-more, holds-within, worked-yes, least-counts-bound}
-use Rattle.facts.proofs.LeastSheet.{counts-says, least-count-can, least-count-le, fixed-zero, fixed-at, fixed-down, least-sheet-fits}
-use Rattle.facts.proofs.StateExact.{yes-out}
-use Rattle.facts.proofs.StateFree.{free-fit, work-in-zero, state-of-zero}
+use Rattle.facts.proofs.LeastSheet.{count-fits, least-count-can, least-count-le, fixed-zero, fixed-at, fixed-down, least-sheet-fits}
+use Rattle.facts.proofs.StateFree.{state-of-zero}
 
 -- ---- one field
 fix-small : {x count : ℕ} → x ≤ last-field → count ≤ most-count → Small most-count (counts x count)
@@ -97,14 +95,6 @@ module _ {start : Facts} {n : ℕ} (has : HasLeast start n) where
     zero-kept : ZeroKept (state f .classes)
     zero-kept = subst (λ (s : State). ZeroKept (s .classes)) (sym (b .is)) (fixed-zero (b .done) (state start) start-zero)
 
-    -- a choice of counts that fits, in which the field has a count that it can have
-    fits-with : (y : ℕ) → can-count (state f) i y ≡ true → (v : Valuation) × Fit (state f) v × (at v i ≡ y)
-    fits-with y t =
-        let q = counts i y in
-        let v = some-sheet (yes-to (state f) q) in
-        let k = yes-out (state f) q v (free-fit (yes-to (state f) q) (work-in-zero (state f) q true zero-kept) t) in
-        (v, k .0, counts-says v i y (k .1))
-
     pub can-fix : CanFix f i
     can-fix =
         let can = least-count-can (state f) zero-kept (b .holds .fitted) i in
@@ -113,9 +103,9 @@ module _ {start : Facts} {n : ℕ} (has : HasLeast start n) where
           within = holds-within (b .holds) (omega arith) (omega arith);
           fitted = b .holds .fitted;
           small-count = rw (b .is, b .i-is) (small-counts (b .done) (omega (arith, b .i-is, has .few-fields)));
-          from-offset = let w = fits-with (least-count (state f) i) can in omega (arith, w .1 .classed .at-field i, w .2);
+          from-offset = let w = count-fits (state f) zero-kept i (least-count (state f) i) can in omega (arith, w .1 .classed .at-field i, w .2);
           can = can;
-          least-can = λ y t. let w = fits-with y t in omega (arith, least-count-le (state f) zero-kept (b .holds .fitted) i (w .0) (w .1), w .2);
+          least-can = λ y t. let w = count-fits (state f) zero-kept i y t in omega (arith, least-count-le (state f) zero-kept (b .holds .fitted) i (w .0) (w .1), w .2);
         }
 
     pub fixed-next : {r : Fixed} → FixedAt f i r → FixedBelow start (i + 1) (r .facts) (set found i (r .count))

@@ -5,6 +5,7 @@ pub mod StateFree
 pub mod Decided
 pub mod LeastSheet
 pub mod LeastBound
+pub mod FewCandidates
 pub mod Numbered
 pub mod RecordWays
 pub mod Joining
