@@ -33,7 +33,28 @@ best-from-below t =
 
 -- what the callees ask and give, at the measure t
 abbrev knows : ℕ → best-from-lts.Claims
-knows t = (is-beaten-reads.Asked, is-beaten-reads.Learnt, least-sheet-reads.Asked, least-sheet-reads.Learnt, lesser-reads.Asked, lesser-reads.Learnt, entry-of-reads.Asked, entry-of-reads.Learnt, wide-reads.Asked, wide-reads.Learnt, question-at-reads.Asked, question-at-reads.Learnt, ask-reads.Asked, ask-reads.Learnt, best-from-below t, best-from.Post, no-reads.Asked, no-reads.Learnt, is-before-reads.Asked, is-before-reads.Learnt)
+knows t = (
+  is-beaten-reads.Asked,
+  is-beaten-reads.Learnt,
+  least-sheet-reads.Asked,
+  least-sheet-reads.Learnt,
+  lesser-reads.Asked,
+  lesser-reads.Learnt,
+  entry-of-reads.Asked,
+  entry-of-reads.Learnt,
+  wide-reads.Asked,
+  wide-reads.Learnt,
+  question-at-reads.Asked,
+  question-at-reads.Learnt,
+  ask-reads.Asked,
+  ask-reads.Learnt,
+  best-from-below t,
+  best-from.Post,
+  no-reads.Asked,
+  no-reads.Learnt,
+  is-before-reads.Asked,
+  is-before-reads.Learnt,
+)
 
 -- ---- once the question is asked
 abbrev Asks : ℕ → Type 0

@@ -30,7 +30,22 @@ leaves-from-below t =
 
 -- what the callees ask and give, at the measure t
 abbrev knows : ℕ → leaves-from-lts.Claims
-knows t = (entry-of-reads.Asked, entry-of-reads.Learnt, wide-reads.Asked, wide-reads.Learnt, question-at-reads.Asked, question-at-reads.Learnt, ask-reads.Asked, ask-reads.Learnt, leaves-from-below t, leaves-from.Post, no-reads.Asked, no-reads.Learnt, either-reads.Asked, either-reads.Learnt)
+knows t = (
+  entry-of-reads.Asked,
+  entry-of-reads.Learnt,
+  wide-reads.Asked,
+  wide-reads.Learnt,
+  question-at-reads.Asked,
+  question-at-reads.Learnt,
+  ask-reads.Asked,
+  ask-reads.Learnt,
+  leaves-from-below t,
+  leaves-from.Post,
+  no-reads.Asked,
+  no-reads.Learnt,
+  either-reads.Asked,
+  either-reads.Learnt,
+)
 
 leaves-from-returns : (t : ℕ) → leaves-from-lts.Need-returns (knows t) (leaves-from-at t) leaves-from.Post
 leaves-from-returns t c = search (needs, leaf-reached)
