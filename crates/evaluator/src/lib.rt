@@ -26,7 +26,6 @@ pub use asking::expect_verdict;
 pub use asking::expect_written;
 pub use asking::is_example;
 pub use calls::Row;
-pub use calls::call_fault;
 pub use calls::call_truth;
 pub use calls::row_of;
 pub use entries::asked_by;

@@ -6,6 +6,7 @@ use crate::entries::yes_of;
 use crate::layout::cell;
 use crate::layout::left_of;
 use crate::layout::right_of;
+use crate::words::count_at;
 
 fn wide(count: u16) -> u32
     ensures { λ r. ⌜ r < 65536 ⌝ }
@@ -17,11 +18,7 @@ fn wide(count: u16) -> u32
 fn count(sheet: &[u16], term: u32) -> u32
     ensures { λ r. ⌜ r < 65536 ⌝ }
 {
-    let place = ((term % 32 + 31) % 32) as usize;
-    if place < sheet.len() {
-        return wide(sheet[place]);
-    }
-    0
+    wide(count_at(sheet, ((term % 32 + 31) % 32) as usize))
 }
 
 fn value(sheet: &[u16], term: u32) -> u32 {

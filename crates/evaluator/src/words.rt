@@ -48,7 +48,8 @@ pub fn same_words(s: &[u32], t: &[u32]) -> bool {
     same
 }
 
-fn count_at(sheet: &[u16], place: usize) -> u16 {
+// The count at a place, 0 beyond the end.
+pub fn count_at(sheet: &[u16], place: usize) -> u16 {
     if place < sheet.len() {
         return sheet[place];
     }

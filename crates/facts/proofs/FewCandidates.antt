@@ -7,7 +7,6 @@ use mathlib.Core.Bool.{Bool, true, false, cond, not, _&&_, true≢false, false�
 use mathlib.Core.List.{List, [], _∷_}
 use native.Mathlib.Omega.{arith}
 use native.Mathlib.Decide.{ℕ-discrete}
-use borrow.Author.Tests.{eqb-true}
 use lib.Dec.{eqb}
 use lib.ListN.{length}
 use Rattle.terms.specs.declared.term.Equation.{Equation}
@@ -64,42 +63,32 @@ unfolding distances
 distances-length c [] = refl
 distances-length c (q ∷ qs) = ap suc (distances-length c qs)
 
-both-equal : (a b c d : ℕ) → (eqb a b && eqb c d) ≡ true → (a ≡ b) × (c ≡ d)
-both-equal a b c d = by-eq (λ x. (x && eqb c d) ≡ true → (a ≡ b) × (c ≡ d)) a b (λ h u. (h, eqb-true c d u)) (λ _ f. absurd (false≢true f))
-
 -- joining class p to class t settles a question that was not, at one distance only
 module _ (c : Classes) (t p d : ℕ) (q : Equation) where
-  left-class : ℕ
+  abbrev left-class : ℕ
   left-class = c .class (q .left .field .0)
 
-  right-class : ℕ
+  abbrev right-class : ℕ
   right-class = c .class (q .right .field .0)
 
-  left-offset : ℕ
-  left-offset = c .offset (q .left .field .0)
-
-  right-offset : ℕ
-  right-offset = c .offset (q .right .field .0)
-
-  Settles : Bool → Bool → Type 0
+  -- by whether the two sides are in class p
+  abbrev Settles : Bool → Bool → Type 0
   Settles x y =
-      (eqb (cond x t left-class) (cond y t right-class) && eqb (cond x (left-offset + d) left-offset + q .left .steps .0) (cond y (right-offset + d) right-offset + q .right .steps .0)) ≡ true
+      cond x t left-class ≡ cond y t right-class
+      → cond x (c .offset (q .left .field .0) + d) (c .offset (q .left .field .0)) + q .left .steps .0
+      ≡ cond y (c .offset (q .right .field .0) + d) (c .offset (q .right .field .0)) + q .right .steps .0
       → distance c q ≡ d
 
   apart : settled c q ≡ false → left-class ≡ right-class → left-side c q ≢ right-side c q
-  unfolding left-class right-class
   apart = settled-cases (λ b. b ≡ false → left-class ≡ right-class → left-side c q ≢ right-side c q) c q (λ _ _ f. absurd (true≢false f)) (λ n _. n)
 
   one-distance : settled c q ≡ false → settled (joined c t p d) q ≡ true → distance c q ≡ d
-  unfolding distance left-class right-class left-offset right-offset Settles
-  one-distance m =
-      by-eq (λ x. Settles x (eqb right-class p)) left-class p
-      (λ e. by-eq (Settles true) right-class p
-      (λ g u. absurd (apart m (e ∙ sym g) (omega (arith, both-equal t t (left-offset + d + q .left .steps .0) (right-offset + d + q .right .steps .0) u .1))))
-      (λ _ u. omega (arith, both-equal t right-class (left-offset + d + q .left .steps .0) (right-offset + q .right .steps .0) u .1)))
-      (λ _. by-eq (Settles false) right-class p
-      (λ _ u. omega (arith, both-equal left-class t (left-offset + q .left .steps .0) (right-offset + d + q .right .steps .0) u .1))
-      (λ _ u. let k = both-equal left-class right-class (left-offset + q .left .steps .0) (right-offset + q .right .steps .0) u in absurd (apart m (k .0) (k .1))))
+  unfolding distance
+  one-distance m = settled-cases (λ b. b ≡ true → distance c q ≡ d) (joined c t p d) q
+      (λ h g _. by-eq (λ x. Settles x (eqb right-class p)) left-class p
+      (λ e. by-eq (Settles true) right-class p (λ k _ g. absurd (apart m (e ∙ sym k) (omega arith))) (λ _ _ g. omega arith))
+      (λ _. by-eq (Settles false) right-class p (λ _ _ g. omega arith) (λ _ h g. absurd (apart m h g))) h g)
+      (λ _ f. absurd (false≢true f))
 
 none-shut-out : (c : Classes) (t p d : ℕ) (qs : List Equation) → none-settled c qs ≡ true → has (distances c qs) d ≡ false → none-settled (joined c t p d) qs ≡ true
 unfolding has distances

@@ -15,7 +15,7 @@ pub struct Asked {
     pub yes: Facts,
 }
 
-// What the facts say of a question and, where it is open, the facts with it answered yes.
+// The question is decided first, and a yes is worked in only where it is open.
 pub fn ask(f: Facts, q: Equation) -> Asked
     requires { ⌜ need.Askable f q ⌝ }
     ensures { λ r. ⌜ spec.AskedOf f q r ⌝ }

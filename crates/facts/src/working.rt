@@ -68,7 +68,7 @@ pub fn yes(f: Facts, q: Equation) -> Worked
     }
 }
 
-// The facts with a question answered yes, where some choice of counts fits them then.
+// The facts with a question answered yes, where it is known that some choice of counts fits them then: there is no clash, and nothing is tested again.
 fn with_yes(f: Facts, q: Equation) -> Facts
     requires { ⌜ need.CanAnswerYes f q ⌝ }
     ensures { λ r. ⌜ spec.state r ≡ state.yes-to (spec.state f) q ⌝ }

@@ -3,12 +3,10 @@ use Prim.Native.Nat.{ℕ}
 use mathlib.Core.Path.{_≡_, refl}
 use mathlib.Core.Bool.{cond, not, _&&_}
 use mathlib.Core.List.{List, []}
-use Rattle.operations.specs.declared.answer.Built.{Built}
 use Rattle.operations.specs.declared.answer.Built.the-variants.{Handle}
 use Rattle.operations.specs.Handles.{Call, build, negate, join, choose, answer-to, rule-of, rule-of-call}
 use Rattle.operations.specs.Operations as operation
 use Rattle.store.specs.Meaning.{meaning}
-use Rattle.store.specs.Outcome.{Outcome}
 use Rattle.tables.specs.Rows.{rule-meaning}
 use Rattle.terms.specs.declared.limits.Limits.{Limits}
 use Rattle.terms.specs.Meaning.{Valuation}

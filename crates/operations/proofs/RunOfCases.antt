@@ -3,7 +3,7 @@
 use Prim.Native.Nat.{ℕ}
 use mathlib.Core.Path.{_≡_, refl}
 use mathlib.Core.Bool.{Bool, true, false, not}
-use mathlib.Core.List.{List, [], _∷_, map}
+use mathlib.Core.List.{[], _∷_, map}
 use lib.ListN.{length, replicate}
 use Rattle.operations.specs.declared.answer.Built.the-variants.{Handle}
 use Rattle.operations.specs.Between.{call, reopen, run-steps}

@@ -12,7 +12,6 @@ use evaluator::expect_added;
 use evaluator::expect_opened;
 use evaluator::part;
 use evaluator::same_words;
-use evaluator::word_at;
 use sheet::Answer;
 use sheet::sheet_build;
 use sheet::sheet_choose;

@@ -18,12 +18,9 @@ pub fn same_answer(found: sheet::Answer, expected: evaluator::Answer) -> bool {
 
 // Nothing where the evaluator doesn't know the answer.
 pub fn remark(known: bool, same: bool) {
-    if known {
-        remark_known(same);
+    if !known {
+        return;
     }
-}
-
-fn remark_known(same: bool) {
     if same {
         text(b" agrees");
     } else {
