@@ -12,8 +12,8 @@ use crate::layout::used;
 use crate::words::copy;
 
 // Draws the call's diagram into a copy of the store's words, which is made anew where there is no room.
-fn expect_drawn(call: Row, table: &[u32], store: &[u32], words: &mut [u32]) -> Answer {
-    let ways = ways_of(call, table, store);
+fn expect_drawn(store: &[u32], call: Row, table: &[u32], words: &mut [u32]) -> Answer {
+    let ways = ways_of(store, call, table);
     let handle = draw(words, &ways, 0, 1, questions(store) % 32);
     if !has_room(store, used(words)) {
         copy(store, words);
@@ -23,11 +23,11 @@ fn expect_drawn(call: Row, table: &[u32], store: &[u32], words: &mut [u32]) -> A
 }
 
 // The answer of a call; the store's words afterwards go into a slice that is long enough.
-pub fn expect_added(call: Row, table: &[u32], store: &[u32], words: &mut [u32]) -> Answer {
+pub fn expect_added(store: &[u32], call: Row, table: &[u32], words: &mut [u32]) -> Answer {
     copy(store, words);
-    let fault = call_fault(call, table, store);
+    let fault = call_fault(store, call, table);
     if fault != 0 {
         return refused(fault);
     }
-    expect_drawn(call, table, store, words)
+    expect_drawn(store, call, table, words)
 }

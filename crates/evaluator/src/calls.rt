@@ -48,7 +48,7 @@ pub fn row_of(kind: u32, a: u32, b: u32, c: u32) -> Row {
 }
 
 // The refusal of the store, and then of the rule table or of the handles; 0 if there is none.
-pub fn call_fault(call: Row, table: &[u32], store: &[u32]) -> u32 {
+pub fn call_fault(store: &[u32], call: Row, table: &[u32]) -> u32 {
     if !is_sound(store) {
         return 22;
     }
@@ -65,12 +65,12 @@ fn handles_fault(store: &[u32], a: u32, b: u32, c: u32) -> u32 {
 }
 
 // The meaning of a call at a sheet of the grid.
-pub fn call_truth(call: Row, table: &[u32], store: &[u32], number: u32) -> bool {
+pub fn call_truth(store: &[u32], call: Row, table: &[u32], number: u32) -> bool {
     let sheet = sheet_of(fields(store), number);
-    sheet_truth(call, table, store, &sheet)
+    sheet_truth(store, call, table, &sheet)
 }
 
-fn sheet_truth(call: Row, table: &[u32], store: &[u32], sheet: &[u16]) -> bool {
+fn sheet_truth(store: &[u32], call: Row, table: &[u32], sheet: &[u16]) -> bool {
     if call.kind == 2 {
         return rule_truth(table, sheet);
     }

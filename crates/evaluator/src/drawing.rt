@@ -33,12 +33,12 @@ fn way_of(store: &[u32], sheet: &[u16]) -> u32
     way
 }
 
-pub fn ways_of(call: Row, table: &[u32], store: &[u32]) -> Ways {
+pub fn ways_of(store: &[u32], call: Row, table: &[u32]) -> Ways {
     let mut ways = [NOTHING; 256];
     let n = fields(store);
     for number in 0..sheets_of(n) {
         let way = way_of(store, &sheet_of(n, number));
-        ways[way as usize] = call_truth(call, table, store, number) as u32;
+        ways[way as usize] = call_truth(store, call, table, number) as u32;
     }
     ways
 }

@@ -33,10 +33,10 @@ pub fn alike(store: &[u32], a: u32, b: u32) -> bool {
 }
 
 // At how many sheets a handle differs from the meaning of a call.
-pub fn differences(call: Row, table: &[u32], store: &[u32], handle: u32) -> u32 {
+pub fn differences(store: &[u32], call: Row, table: &[u32], handle: u32) -> u32 {
     let mut count = 0;
     for number in 0..sheets_of(fields(store)) {
-        let differ = truth_at(store, handle, number) != call_truth(call, table, store, number);
+        let differ = truth_at(store, handle, number) != call_truth(store, call, table, number);
         count = count % 1000 + differ as u32 % 2;
     }
     count

@@ -41,7 +41,7 @@ fn call_of(name: u8, numbers: Numbers) -> Row {
 }
 
 // A list stands after the number of fields, and a rule table by itself.
-fn perform(call: Row, given: &[u32], store: &mut [u32]) -> Answer {
+fn perform(store: &mut [u32], call: Row, given: &[u32]) -> Answer {
     let kind = call.kind;
     match kind {
         0 => sheet_open(call.a, part(given, 1, given.len()), store),
@@ -52,9 +52,9 @@ fn perform(call: Row, given: &[u32], store: &mut [u32]) -> Answer {
     }
 }
 
-fn expect(call: Row, given: &[u32], store: &[u32], after: &mut [u32]) -> evaluator::Answer {
+fn expect(store: &[u32], call: Row, given: &[u32], after: &mut [u32]) -> evaluator::Answer {
     if call.kind != 0 {
-        return expect_added(call, given, store, after);
+        return expect_added(store, call, given, after);
     }
     evaluator::Answer {
         number: expect_opened(call.a, part(given, 1, given.len()), store, after),
@@ -63,11 +63,11 @@ fn expect(call: Row, given: &[u32], store: &[u32], after: &mut [u32]) -> evaluat
 }
 
 // The answer to opening depends on no word of the store.
-fn make(call: Row, given: &[u32], store: &mut [u32]) {
+fn make(store: &mut [u32], call: Row, given: &[u32]) {
     let mut after = [0u32; 64];
     let known = (call.kind == 0) | knows(store);
-    let expected = expect(call, given, store, &mut after);
-    let found = perform(call, given, store);
+    let expected = expect(store, call, given, &mut after);
+    let found = perform(store, call, given);
     answer(found);
     words(store);
     remark(
@@ -85,31 +85,31 @@ fn all_always() -> [u32; 1028] {
     table
 }
 
-fn make_always(call: Row, rows: u32, store: &mut [u32]) {
-    make(call, part(&all_always(), 0, 4 * (rows as usize)), store);
+fn make_always(store: &mut [u32], call: Row, rows: u32) {
+    make(store, call, part(&all_always(), 0, 4 * (rows as usize)));
 }
 
 // A call with what stands after the bar, or with so many rows of kind 1.
-fn make_given(name: u8, numbers: Numbers, store: &mut [u32]) {
+fn make_given(store: &mut [u32], name: u8, numbers: Numbers) {
     let given = numbers.words;
     let call = call_of(name, numbers);
     if numbers.bar == NO_BAR {
-        make_always(call, given[0], store);
+        make_always(store, call, given[0]);
     } else {
-        make(call, part(&given, 0, numbers.count), store);
+        make(store, call, part(&given, 0, numbers.count));
     }
 }
 
 // On the first words of what is lent.
-fn make_within(name: u8, numbers: Numbers, store: &mut [u32], length: usize) {
+fn make_within(store: &mut [u32], length: usize, name: u8, numbers: Numbers) {
     if length <= store.len() {
-        make_given(name, numbers, &mut store[0..length]);
+        make_given(&mut store[0..length], name, numbers);
     }
 }
 
 pub fn change(mut lent: Lent, name: u8, numbers: Numbers) -> Lent {
     let mut store = lent.words;
-    make_within(name, numbers, &mut store, lent.length);
+    make_within(&mut store, lent.length, name, numbers);
     lent.words = store;
     lent
 }

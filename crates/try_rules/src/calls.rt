@@ -70,7 +70,7 @@ fn throw_next(seed: u64, store: &[u32]) -> Next {
     }
 }
 
-pub fn perform(call: Row, table: &[u32], store: &mut [u32]) -> Answer {
+pub fn perform(store: &mut [u32], call: Row, table: &[u32]) -> Answer {
     let kind = call.kind;
     match kind {
         2 => sheet_build(store, table),
@@ -83,50 +83,50 @@ pub fn perform(call: Row, table: &[u32], store: &mut [u32]) -> Answer {
 // What read answers for the diagram of an accepted call, at a sheet of the grid.
 fn compare_read(
     run: Run,
+    store: &[u32],
     call: Row,
     table: &[u32],
-    store: &[u32],
     handle: u32,
     number: u32,
 ) -> Run {
     let sheet = sheet_of(fields(store), number);
     let found = sheet_read(store, handle, first_counts(&sheet, fields(store) as usize));
-    let truth = call_truth(call, table, store, number);
+    let truth = call_truth(store, call, table, number);
     expect_answer(run, found, accepted(truth as u32))
 }
 
 // The same at every sixteenth sheet, from the fourth on.
-fn compare_reads(mut run: Run, call: Row, table: &[u32], store: &[u32], handle: u32) -> Run {
+fn compare_reads(mut run: Run, store: &[u32], call: Row, table: &[u32], handle: u32) -> Run {
     let sheets = sheets_of(fields(store)) % 1024;
     for i in 0..(sheets + 12) / 16 {
-        run = compare_read(run, call, table, store, handle, 16 * i + 3);
+        run = compare_read(run, store, call, table, handle, 16 * i + 3);
     }
     run
 }
 
 // The diagram of an accepted call against the meaning that it stands for, at all sheets of the grid. Its handle is entered into the ledger.
-fn compare_sheets(mut run: Run, call: Row, table: &[u32], store: &[u32], handle: u32) -> Run {
-    let differ = differences(call, table, store, handle);
+fn compare_sheets(mut run: Run, store: &[u32], call: Row, table: &[u32], handle: u32) -> Run {
+    let differ = differences(store, call, table, handle);
     run = enter(run, handle);
     run = count(run, sheets_of(fields(store)), differ);
-    compare_reads(run, call, table, store, handle)
+    compare_reads(run, store, call, table, handle)
 }
 
-fn compare_accepted(run: Run, call: Row, table: &[u32], store: &[u32], found: Answer) -> Run {
+fn compare_accepted(run: Run, store: &[u32], call: Row, table: &[u32], found: Answer) -> Run {
     let number = found.number;
     match number {
-        0 => compare_sheets(run, call, table, store, found.result),
+        0 => compare_sheets(run, store, call, table, found.result),
         _ => run,
     }
 }
 
-fn try_call(mut run: Run, call: Row, table: &[u32], store: &mut [u32]) -> Run {
+fn try_call(mut run: Run, store: &mut [u32], call: Row, table: &[u32]) -> Run {
     let mut words = [0u32; 1024];
-    let expected = expect_added(call, table, store, &mut words);
-    let found = perform(call, table, store);
+    let expected = expect_added(store, call, table, &mut words);
+    let found = perform(store, call, table);
     run = expect_answer(run, found, expected);
     run = agree(run, same_words(store, &words));
-    compare_accepted(run, call, table, store, found)
+    compare_accepted(run, store, call, table, found)
 }
 
 // One generated call.
@@ -137,9 +137,9 @@ fn try_next(mut run: Run, store: &mut [u32]) -> Run {
     run.seed = next.seed;
     try_call(
         run,
+        store,
         next.call,
         part(&words, 0, table.length as usize),
-        store,
     )
 }
 

@@ -115,8 +115,8 @@ fn broken(way: u64) -> [u32; 25] {
 }
 
 // A call that adds, of handles that are there or not.
-fn refuse_call(run: Run, kind: u32, store: &mut [u32]) -> Run {
-    let found = perform(row_of(kind, 9, 0, 1), &[7, 7, 7], store);
+fn refuse_call(run: Run, store: &mut [u32], kind: u32) -> Run {
+    let found = perform(store, row_of(kind, 9, 0, 1), &[7, 7, 7]);
     expect_answer(run, found, refused(22))
 }
 
@@ -124,7 +124,7 @@ fn refuse_call(run: Run, kind: u32, store: &mut [u32]) -> Run {
 fn refuse_calls(mut run: Run, store: &[u32], words: &mut [u32]) -> Run {
     copy(store, words);
     for kind in 2..6u32 {
-        run = refuse_call(run, kind, words);
+        run = refuse_call(run, words, kind);
     }
     agree(run, same_words(store, words))
 }

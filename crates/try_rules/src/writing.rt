@@ -66,7 +66,7 @@ fn compare_written(
 
 // The rows written back mean what the handle means.
 fn compare_rows(run: Run, store: &[u32], handle: u32, table: &[u32]) -> Run {
-    let differ = differences(row_of(2, 0, 0, 0), table, store, handle);
+    let differ = differences(store, row_of(2, 0, 0, 0), table, handle);
     count(run, sheets_of(fields(store)), differ)
 }
 

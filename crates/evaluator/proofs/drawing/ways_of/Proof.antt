@@ -5,10 +5,10 @@ use Rattle.evaluator.proofs.drawing.ways_of.Statement.{statement}
 use Rattle.evaluator.proofs.drawing.ways_of.Tie as tie
 
 abbrev Inv-loop : tie.InvT-loop
-Inv-loop call table store ways₀ n number₀ number-end ways number = number ≤ number-end
+Inv-loop store call table ways₀ n number₀ number-end ways number = number ≤ number-end
 
 abbrev μ-loop : tie.MeasureT-loop
-μ-loop call table store ways₀ n number₀ number-end ways number = number-end - number
+μ-loop store call table ways₀ n number₀ number-end ways number = number-end - number
 
 fields-requires : tie.Need-fields-requires Inv-loop μ-loop
 fields-requires c κs = search needs

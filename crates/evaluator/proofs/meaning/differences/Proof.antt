@@ -5,10 +5,10 @@ use Rattle.evaluator.proofs.meaning.differences.Statement.{statement}
 use Rattle.evaluator.proofs.meaning.differences.Tie as tie
 
 abbrev Inv-loop : tie.InvT-loop
-Inv-loop call table store handle count₀ number₀ number-end count number = number ≤ number-end
+Inv-loop store call table handle count₀ number₀ number-end count number = number ≤ number-end
 
 abbrev μ-loop : tie.MeasureT-loop
-μ-loop call table store handle count₀ number₀ number-end count number = number-end - number
+μ-loop store call table handle count₀ number₀ number-end count number = number-end - number
 
 fields-requires : tie.Need-fields-requires Inv-loop μ-loop
 fields-requires c κs = search needs

@@ -5,10 +5,10 @@ use Rattle.try_rules.proofs.calls.compare_reads.Statement.{statement}
 use Rattle.try_rules.proofs.calls.compare_reads.Tie as tie
 
 abbrev Inv-loop : tie.InvT-loop
-Inv-loop run₀ call table store handle sheets i₀ i-end run i = (i ≤ i-end) × (i-end ≤ 65)
+Inv-loop run₀ store call table handle sheets i₀ i-end run i = (i ≤ i-end) × (i-end ≤ 65)
 
 abbrev μ-loop : tie.MeasureT-loop
-μ-loop run₀ call table store handle sheets i₀ i-end run i = i-end - i
+μ-loop run₀ store call table handle sheets i₀ i-end run i = i-end - i
 
 fields-requires : tie.Need-fields-requires Inv-loop μ-loop
 fields-requires c κs = search needs
