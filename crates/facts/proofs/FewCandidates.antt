@@ -72,8 +72,8 @@ module _ (c : Classes) (t p d : ℕ) (q : Equation) where
   right-class = c .class (q .right .field .0)
 
   -- by whether the two sides are in class p
-  abbrev Settles : Bool → Bool → Type 0
-  Settles x y =
+  abbrev AtOneDistance : Bool → Bool → Type 0
+  AtOneDistance x y =
       cond x t left-class ≡ cond y t right-class
       → cond x (c .offset (q .left .field .0) + d) (c .offset (q .left .field .0)) + q .left .steps .0
       ≡ cond y (c .offset (q .right .field .0) + d) (c .offset (q .right .field .0)) + q .right .steps .0
@@ -85,9 +85,9 @@ module _ (c : Classes) (t p d : ℕ) (q : Equation) where
   one-distance : settled c q ≡ false → settled (joined c t p d) q ≡ true → distance c q ≡ d
   unfolding distance
   one-distance m = settled-cases (λ b. b ≡ true → distance c q ≡ d) (joined c t p d) q
-      (λ h g _. by-eq (λ x. Settles x (eqb right-class p)) left-class p
-      (λ e. by-eq (Settles true) right-class p (λ k _ g. absurd (apart m (e ∙ sym k) (omega arith))) (λ _ _ g. omega arith))
-      (λ _. by-eq (Settles false) right-class p (λ _ _ g. omega arith) (λ _ h g. absurd (apart m h g))) h g)
+      (λ h g _. by-eq (λ x. AtOneDistance x (eqb right-class p)) left-class p
+      (λ e. by-eq (AtOneDistance true) right-class p (λ k _ g. absurd (apart m (e ∙ sym k) (omega arith))) (λ _ _ g. omega arith))
+      (λ _. by-eq (AtOneDistance false) right-class p (λ _ _ g. omega arith) (λ _ h g. absurd (apart m h g))) h g)
       (λ _ f. absurd (false≢true f))
 
 none-shut-out : (c : Classes) (t p d : ℕ) (qs : List Equation) → none-settled c qs ≡ true → has (distances c qs) d ≡ false → none-settled (joined c t p d) qs ≡ true
