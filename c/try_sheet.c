@@ -1,5 +1,5 @@
-/* Goes through document 01's cases 1 to 12 by the C functions of libsheet.a, and through NULL with length 0. The expected values are the
-   paper's, written here as literals; those that it does not give were worked out by hand. Prints what each call answered, marks each
+/* Goes through document 01's cases 1 to 12 and those of document 02 by the C functions of libsheet.a, and through NULL with length 0. The expected
+   values are the papers', written here as literals; those that they do not give were worked out by hand. Prints what each call answered, marks each
    difference, and exits with 1 if there is one. */
 #include <inttypes.h>
 #include <stdio.h>
@@ -86,14 +86,15 @@ static void cases_1_to_4(void)
     simplify("2 simplify S(1) = S2(1)", 33, 65, (sheet_simplified){0, 0, 0, 0, 0});
     simplify("2 simplify S(1) = S(1)", 33, 33, (sheet_simplified){0, 1, 0, 0, 0});
     simplify("3 simplify S2(1) = S2(0)", 65, 64, (sheet_simplified){0, 2, 1, 0, 0});
-    simplify("4 simplify 1 = S255(0)", 1, 8160, (sheet_simplified){0, 2, 1, 8160, 255});
-    simplify("4 simplify 1 = S256(0)", 1, 8192, (sheet_simplified){35, 0, 0, 0, 0});
+    simplify("4 simplify 1 = S1023(0)", 1, 32736, (sheet_simplified){0, 2, 1, 32736, 1023});
+    simplify("4 simplify 1 = S1024(0)", 1, 32768, (sheet_simplified){35, 0, 0, 0, 0});
+    simplify("4 simplify S1024(0) = 1", 32768, 1, (sheet_simplified){35, 0, 0, 0, 0});
     simplify("a negative gap, S2(2) = 1", 66, 1, (sheet_simplified){0, 2, 66, 1, -2});
     fill(store, LENGTH(store));
-    answer("4 open 1 = S256(0)", sheet_open(1, WORDS(1, 8192), store, LENGTH(store)), 14, 0);
+    answer("4 open 1 = S1024(0)", sheet_open(1, WORDS(1, 32768), store, LENGTH(store)), 14, 0);
     words(store, WORDS(7, 7, 7, 7, 7));
-    answer("4 open 1 = S255(0)", sheet_open(1, WORDS(1, 8160), store, LENGTH(store)), 0, 0);
-    words(store, WORDS(1, 1, 0, 1, 8160));
+    answer("4 open 1 = S1023(0)", sheet_open(1, WORDS(1, 32736), store, LENGTH(store)), 0, 0);
+    words(store, WORDS(1, 1, 0, 1, 32736));
 }
 
 /* No fields and no questions: the list, the sheet and the example have no elements, and their pointer is NULL. */
@@ -206,6 +207,67 @@ static void case_12(void)
     words(store, WORDS(2, 2, 0, 2, 32, 2, 97));
 }
 
+/* Document 02 (viii), up to 1,023 steps: the edge of 255 is none any more, and the largest negative gap. */
+static void steps_simplified(void)
+{
+    simplify("viii simplify 1 = S256(0)", 1, 8192, (sheet_simplified){0, 2, 1, 8192, 256});
+    simplify("viii simplify 15 = S1023(16)", 15, 32752, (sheet_simplified){0, 2, 32752, 15, -1023});
+    simplify("viii simplify S1023(16) = 15", 32752, 15, (sheet_simplified){0, 2, 32752, 15, -1023});
+}
+
+/* S1023(2) = 1, built turned round, and its negation. */
+static void steps_on_the_left(void)
+{
+    uint32_t store[11];
+    uint16_t sheet[2];
+    answer("viii open S1023(2) = 1 in 8 words", sheet_open(2, WORDS(32738, 1), store, 8), 0, 0);
+    answer("viii build 1 = S1023(2)", sheet_build(store, 8, WORDS(2, 1, 32738, 0)), 0, 2);
+    words(store, WORDS(2, 1, 1, 32738, 1, 1, 1, 0));
+    answer("viii example", sheet_example(store, 8, 2, sheet, LENGTH(sheet)), 0, 0);
+    counts(sheet, (const uint16_t[]){1023, 0}, LENGTH(sheet));
+    answer("viii open in 11 words", sheet_open(2, WORDS(32738, 1), store, LENGTH(store)), 0, 0);
+    answer("viii build", sheet_build(store, LENGTH(store), WORDS(2, 1, 32738, 0)), 0, 2);
+    answer("viii negate", sheet_negate(store, LENGTH(store), 2), 0, 3);
+    answer("viii example of not", sheet_example(store, LENGTH(store), 3, sheet, LENGTH(sheet)), 0, 0);
+    counts(sheet, (const uint16_t[]){0, 0}, LENGTH(sheet));
+}
+
+/* Sixteen fields, each 1,023 above the one before: 1 = S1023(0) to 16 = S1023(15). */
+static void steps_added_up(void)
+{
+    uint32_t list[32], rule[31 * 4], store[83];
+    uint16_t sheet[16], expected[16];
+    uint32_t rows = 0;
+    for (uint32_t field = 1; field <= 16; field++) {
+        const uint32_t equation[] = {2, field, 32736 + field - 1, 0};
+        const uint32_t both[] = {4, rows - 1, rows, 0};
+        memcpy(&list[2 * (field - 1)], &equation[1], 2 * sizeof(uint32_t));
+        memcpy(&rule[4 * rows++], equation, sizeof(equation));
+        if (field > 1) {
+            memcpy(&rule[4 * rows++], both, sizeof(both));
+        }
+        expected[field - 1] = (uint16_t)(1023 * field);
+    }
+    answer("viii open 16 fields", sheet_open(16, list, LENGTH(list), store, LENGTH(store)), 0, 0);
+    answer("viii build all sixteen", sheet_build(store, LENGTH(store), rule, LENGTH(rule)), 0, 17);
+    answer("viii example of all sixteen", sheet_example(store, LENGTH(store), 17, sheet, LENGTH(sheet)), 0, 0);
+    counts(sheet, expected, LENGTH(sheet));
+}
+
+/* Stores that are not opened: with a question of 1,023 steps sound, with one of 1,024 not. */
+static void steps_in_a_store(void)
+{
+    uint32_t store[8] = {1, 1, 0, 1, 32736, 0, 0, 0};
+    answer("viii verdict, 1,023 steps", sheet_verdict(store, 5, 0), 0, 0);
+    answer("viii verdict, 1,024 steps", sheet_verdict(WORDS(1, 1, 0, 1, 32768), 0), 22, 0);
+    answer("viii build 1 = S1024(0)", sheet_build(store, LENGTH(store), WORDS(2, 1, 32768, 0)), 35, 0);
+    answer("viii build S(1) = S1024(0)", sheet_build(store, LENGTH(store), WORDS(2, 33, 32768, 0)), 35, 0);
+    answer("viii build 1 = S256(0)", sheet_build(store, LENGTH(store), WORDS(2, 1, 8192, 0)), 36, 0);
+    words(store, WORDS(1, 1, 0, 1, 32736, 0, 0, 0));
+    answer("viii build 1 = S1023(0)", sheet_build(store, LENGTH(store), WORDS(2, 1, 32736, 0)), 0, 2);
+    words(store, WORDS(1, 1, 1, 1, 32736, 1, 1, 0));
+}
+
 /* No words at all, by NULL: no store is so short. */
 static void null_stores(void)
 {
@@ -241,6 +303,10 @@ int main(void)
     case_10();
     case_11();
     case_12();
+    steps_simplified();
+    steps_on_the_left();
+    steps_added_up();
+    steps_in_a_store();
     null_stores();
     null_slices();
     printf("%u compared, %u differences\n", compared, differences);

@@ -23,8 +23,8 @@
      11  n is above 16                                  31  the rule has no words
      12  the list's words are odd in number             32  the rule's words are no multiple of four
      13  the list has more than 20 questions            33  the rule has more than 256 rows
-     14  a field is above n, or steps above 255         34  unknown kind, nonzero unused column, reference not lower
-     15  not a simplified question                      35  a field is above n, or steps above 255
+     14  a field is above n, or steps above 1,023       34  unknown kind, nonzero unused column, reference not lower
+     15  not a simplified question                      35  a field is above n, or steps above 1,023
      16  not strictly above the question before         36  an equation neither always nor never nor on the list
      21  the store is shorter than 3 + 2q words         41  a handle is at or above used + 2
      22  the store is not sound                         51  used plus the new entries exceeds the store's room

@@ -1,7 +1,7 @@
--- Document 01, "Sheets and stores to try": the starred cases, each number as the paper has it or as its words give it.
+-- Document 01, "Sheets and stores to try": the starred cases, and those of document 02's requests; each number as the papers have it or as their words give it.
 use Prim.Native.Nat.{ℕ}
 use mathlib.Core.List.{List, [], _∷_, _++_}
-use lib.IntN.{pos}
+use lib.IntN.{pos, negsuc}
 use lib.ListN.{replicate}
 use Rattle.operations.specs.ThreeEqual.{three-equal, last-equal, outer-equal, not-outer, after-case-6}
 use Rattle.cases.specs.Case.{simplify, open-with, build, negate, join, read, write-back, verdict, example, ask-list-gap, simplified, answered, gap-is, Case}
@@ -22,16 +22,60 @@ case-2 = record {
 abbrev pub case-3 : Case
 case-3 = record { start = []; calls = simplify 65 64 ∷ []; expected = simplified 0 2 1 0 (pos 0) ∷ [] }
 
--- Word 8160 is 255 steps of zero, accepted; 8192 is refused (14 or 35).
+-- Word 32736 is 1,023 steps of zero, accepted; 32768 is refused (14 or 35). The edge of 255, words 8160 and 8192, is none since document 02 (viii).
 abbrev pub case-4 : Case
 case-4 = record {
   start = 7 ∷ 7 ∷ 7 ∷ 7 ∷ 7 ∷ [];
-  calls = simplify 1 8160 ∷ simplify 1 8192 ∷ simplify 8192 1 ∷ open-with 1 (1 ∷ 8192 ∷ []) ∷ open-with 1 (1 ∷ 8160 ∷ []) ∷ [];
+  calls =
+      simplify 1 32736 ∷ simplify 1 32768 ∷ simplify 32768 1 ∷ simplify 1 8192
+      ∷ open-with 1 (1 ∷ 32768 ∷ []) ∷ open-with 1 (1 ∷ 32736 ∷ []) ∷ [];
   expected =
-      simplified 0 2 1 8160 (pos 255) ∷ simplified 35 0 0 0 (pos 0) ∷ simplified 35 0 0 0 (pos 0)
-      ∷ answered 14 0 (7 ∷ 7 ∷ 7 ∷ 7 ∷ 7 ∷ []) (1 ∷ 8192 ∷ [])
-      ∷ answered 0 0 (1 ∷ 1 ∷ 0 ∷ 1 ∷ 8160 ∷ []) (1 ∷ 8160 ∷ []) ∷ [];
+      simplified 0 2 1 32736 (pos 1023) ∷ simplified 35 0 0 0 (pos 0) ∷ simplified 35 0 0 0 (pos 0) ∷ simplified 0 2 1 8192 (pos 256)
+      ∷ answered 14 0 (7 ∷ 7 ∷ 7 ∷ 7 ∷ 7 ∷ []) (1 ∷ 32768 ∷ [])
+      ∷ answered 0 0 (1 ∷ 1 ∷ 0 ∷ 1 ∷ 32736 ∷ []) (1 ∷ 32736 ∷ []) ∷ [];
 }
+
+-- ---- document 02 (viii): 1,023 steps
+-- S1023(16) = 15, either way round: gap -1,023, which is `negsuc 1022`.
+abbrev pub steps-on-the-left : Case
+steps-on-the-left = record {
+  start = [];
+  calls = simplify 15 32752 ∷ simplify 32752 15 ∷ [];
+  expected = simplified 0 2 32752 15 (negsuc 1022) ∷ simplified 0 2 32752 15 (negsuc 1022) ∷ [];
+}
+
+-- n = 2, S1023(2) = 1, 8 words: built turned round, it is handle 2.
+abbrev pub steps-built : Case
+steps-built =
+    let list : List ℕ = 32738 ∷ 1 ∷ [] in
+    let rule : List ℕ = 2 ∷ 1 ∷ 32738 ∷ 0 ∷ [] in
+    record {
+      start = replicate 8 7;
+      calls = open-with 2 list ∷ build rule ∷ [];
+      expected = answered 0 0 (2 ∷ 1 ∷ 0 ∷ (list ++ replicate 3 0)) list ∷ answered 0 2 (2 ∷ 1 ∷ 1 ∷ 32738 ∷ 1 ∷ 1 ∷ 1 ∷ 0 ∷ []) rule ∷ [];
+    }
+
+-- A store whose question has 1,023 steps is sound, and with 1,024 steps it is not. 1 = S1024(0) is refused in a rule, and so is S(1) = S1024(0), though it
+-- would simplify to the listed question; 1 = S256(0) is within the limit and not on the list.
+abbrev pub steps-in-a-store : Case
+steps-in-a-store =
+    let s : List ℕ = 1 ∷ 1 ∷ 0 ∷ 1 ∷ 32736 ∷ 0 ∷ 0 ∷ 0 ∷ [] in
+    let beyond : List ℕ = 2 ∷ 1 ∷ 32768 ∷ 0 ∷ [] in
+    let raised : List ℕ = 2 ∷ 33 ∷ 32768 ∷ 0 ∷ [] in
+    let unlisted : List ℕ = 2 ∷ 1 ∷ 8192 ∷ 0 ∷ [] in
+    let listed : List ℕ = 2 ∷ 1 ∷ 32736 ∷ 0 ∷ [] in
+    record {
+      start = s;
+      calls = verdict 0 ∷ build beyond ∷ build raised ∷ build unlisted ∷ build listed ∷ [];
+      expected =
+          answered 0 0 s [] ∷ answered 35 0 s beyond ∷ answered 35 0 s raised ∷ answered 36 0 s unlisted
+          ∷ answered 0 2 (1 ∷ 1 ∷ 1 ∷ 1 ∷ 32736 ∷ 1 ∷ 1 ∷ 0 ∷ []) listed ∷ [];
+    }
+
+abbrev pub steps-beyond-in-a-store : Case
+steps-beyond-in-a-store =
+    let s : List ℕ = 1 ∷ 1 ∷ 0 ∷ 1 ∷ 32768 ∷ [] in
+    record { start = s; calls = verdict 0 ∷ []; expected = answered 22 0 s [] ∷ [] }
 
 -- n = 0, empty list, 3 words: opened, all zero. The rule of one always row has handle 1; its example writes nothing. (K is 0 for an empty list.)
 abbrev pub case-5-opened : Case
@@ -128,4 +172,6 @@ case-11 =
     }
 
 abbrev pub cases : List Case
-cases = case-1 ∷ case-2 ∷ case-3 ∷ case-4 ∷ case-5-opened ∷ case-5-short ∷ cases-6-to-8 ∷ case-6-short ∷ case-9 ∷ case-11 ∷ case-11-built ∷ case-12 ∷ []
+cases =
+    case-1 ∷ case-2 ∷ case-3 ∷ case-4 ∷ case-5-opened ∷ case-5-short ∷ cases-6-to-8 ∷ case-6-short ∷ case-9 ∷ case-11 ∷ case-11-built ∷ case-12
+    ∷ steps-on-the-left ∷ steps-built ∷ steps-in-a-store ∷ steps-beyond-in-a-store ∷ []

@@ -1,15 +1,17 @@
-// The sheets of up to three counts below ten, numbered in the order that compares field 1 first: the counts are the number's digits. They are
-// a complete test of any rule over a list for which n × (K + 1) is at most nine, K being the largest gap without its sign.
+// The sheets of one count up to 1,024, or of two or three counts below ten, numbered in the order that compares field 1 first: one count is the number, and
+// more are its digits. They are a complete test of any rule over a list for which no count of a sheet exceeds n × (K + 1), K being the largest gap without
+// its sign: of every list of one field, and of those of two or three fields for which it is at most nine.
 use crate::layout::fields;
 use crate::layout::left_of;
 use crate::layout::questions;
 use crate::layout::right_of;
+use crate::lists::MOST_STEPS;
 
 // How many sheets there are.
 pub fn sheets_of(n: u32) -> u32 {
     match n {
         0 => 1,
-        1 => 10,
+        1 => MOST_STEPS + 2,
         2 => 100,
         3 => 1000,
         _ => 0,
@@ -18,24 +20,22 @@ pub fn sheets_of(n: u32) -> u32 {
 
 // The sheet of a number. After its n counts stand zeros.
 pub fn sheet_of(n: u32, number: u32) -> [u16; 3] {
-    let digits = match n {
-        1 => number % 10 * 100,
-        2 => number % 100 * 10,
-        3 => number % 1000,
-        _ => 0,
-    };
-    [
-        (digits / 100 % 10) as u16,
-        (digits / 10 % 10) as u16,
-        (digits % 10) as u16,
-    ]
+    match n {
+        1 => [(number % 65536) as u16, 0, 0],
+        2 => [(number / 10 % 10) as u16, (number % 10) as u16, 0],
+        3 => [
+            (number / 100 % 10) as u16,
+            (number / 10 % 10) as u16,
+            (number % 10) as u16,
+        ],
+        _ => [0, 0, 0],
+    }
 }
 
 // The largest gap for n fields.
 fn most_steps(n: u32) -> u32 {
     match n {
-        0 => 255,
-        1 => 8,
+        0 | 1 => MOST_STEPS,
         2 => 3,
         3 => 2,
         _ => 0,

@@ -4,8 +4,13 @@ use crate::layout::field;
 use crate::layout::steps;
 use crate::words::word_at;
 
+// The largest number of steps, and how many numbers of steps there are with 0.
+pub const MOST_STEPS: u32 = 1023;
+
+const STEP_COUNTS: u32 = MOST_STEPS + 1;
+
 pub fn bad_term(n: u32, term: u32) -> bool {
-    (field(term) > n) | (steps(term) > 255)
+    (field(term) > n) | (steps(term) > MOST_STEPS)
 }
 
 // Larger field left, no common steps, and no steps on the left of zero.
@@ -16,7 +21,8 @@ pub fn is_question(left: u32, right: u32) -> bool {
 
 // Left field, right field, left steps and right steps as the digits of one number, so that questions are compared in that order.
 fn order_of(left: u32, right: u32) -> u32 {
-    ((left % 32 * 32 + right % 32) * 256 + left / 32 % 256) * 256 + right / 32 % 256
+    let fields = left % 32 * 32 + right % 32;
+    (fields * STEP_COUNTS + left / 32 % STEP_COUNTS) * STEP_COUNTS + right / 32 % STEP_COUNTS
 }
 
 // The refusal of a question, given where the one before stands in the order. A question's left field is above 0, so the first is above 0.

@@ -37,7 +37,7 @@ pub fn differences(store: &[u32], call: Row, table: &[u32], handle: u32) -> u32 
     let mut count = 0;
     for number in 0..sheets_of(fields(store)) {
         let differ = truth_at(store, handle, number) != call_truth(store, call, table, number);
-        count = count % 1000 + differ as u32 % 2;
+        count = count % 10000 + differ as u32 % 2;
     }
     count
 }

@@ -21,7 +21,8 @@ fn count(sheet: &[u16], term: u32) -> u32
     wide(count_at(sheet, ((term % 32 + 31) % 32) as usize))
 }
 
-fn value(sheet: &[u16], term: u32) -> u32 {
+// The value of a term at a sheet.
+pub fn value(sheet: &[u16], term: u32) -> u32 {
     count(sheet, term) + term / 32
 }
 

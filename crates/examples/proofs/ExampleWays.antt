@@ -17,7 +17,7 @@ use Rattle.examples.specs.Example.{given, best-sheet, example}
 use Rattle.examples.specs.ExampleSays.{ExampleSays}
 use Rattle.examples.specs.Needs.{sheet-of, best-of, CanSeek, CanWriteSheet, CanGive}
 use Rattle.facts.specs.declared.record.Facts.{Facts}
-use Rattle.facts.specs.Least.{IsLeast, Near}
+use Rattle.facts.specs.Least.{IsLeast}
 use Rattle.facts.specs.Record.{state, last-field}
 use Rattle.facts.specs.State.{at, start}
 use Rattle.store.specs.Layout.{heading-length, field-count, question-count, used, question, leaves, is-handle}
@@ -30,15 +30,11 @@ use Rattle.terms.specs.declared.limits.Limits.{Limits}
 use Rattle.terms.specs.Limits.{most-count}
 use Rattle.terms.specs.Meaning.{Valuation}
 use Rattle.terms.specs.Needs.{FitLimits}
-use Rattle.examples.proofs.ExampleBound.{example-bound}
 use Rattle.examples.proofs.ExampleMeans.{example-says}
+use Rattle.examples.proofs.ExampleWithinLimits.{least-within-limits}
 use Rattle.examples.proofs.SheetWritten.{counts-at}
 use Rattle.store.proofs.SoundFacts.{sound-says}
-use Rattle.store.proofs.SoundList.{sound-question}
 use Rattle.verdicts.proofs.DescentLaws.{descent-starts}
-
-product : (a b c : ℕ) → a ≤ b → a * c ≤ b * c
-product a b c h = mul-le-mul-right c h
 
 -- ---- a handle of a sound store
 module _ {s : List ℕ} {handle : ℕ} {out : List ℕ} (k : CanGive s handle out) where
@@ -69,11 +65,6 @@ module _ {s : List ℕ} {handle : ℕ} {out : List ℕ} (k : CanGive s handle ou
         pub gives-sheet : {o : List ℕ} → o ≡ sheet-of (length out) (r .sheet) → outcome Written o ≡ given (best-sheet s handle) out
         gives-sheet eo = ap (outcome Written) (eo ∙ ap (λ m. sheet-of m (r .sheet)) (k .length-is)) ∙ ap (λ b. given b out) found
 
-        near : (j : ℕ) → 1 ≤ j → j ≤ question-count s → Near (field-count s) (k .limits .terms .steps .0) (question s j)
-        near j i l =
-            let q = sound-question snd j i l in
-            record { left-in = q .left .field-in; right-in = q .right .field-in; gap-up = omega (arith, q .right .steps-in); gap-down = omega (arith, q .left .steps-in) }
-
         -- every count that is found is the least sheet's, so it is small
         count-small : (i : ℕ) → 1 ≤ i → i ≤ field-count s → getD (r .sheet .counts) i 0 ≤ most-count
         count-small i h l =
@@ -89,13 +80,7 @@ module _ {s : List ℕ} {handle : ℕ} {out : List ℕ} (k : CanGive s handle ou
           where
             bounded : (v : Valuation) → IsLeast (field-count s) (λ w. meaning s handle w ≡ true) v → getD (r .sheet .counts) i 0 ≡ at v i → getD (r .sheet .counts) i 0 ≤ most-count
             bounded v is same =
-                let few = few-fields in
-                omega (
-                  arith,
-                  example-bound snd handle (k .handle-in) (field-count s) (k .limits .terms .steps .0) near v is i l,
-                  k .fit .counts-fit,
-                  product (field-count s) last-field (k .limits .terms .steps .0 + 1) (omega arith),
-                )
+                omega (arith, same, least-within-limits snd handle (k .handle-in) v is i l, k .fit .counts-fit, mul-le-mul-right (k .limits .terms .steps .0 + 1) (k .fit .fields-fit))
 
         pub can-write : CanWriteSheet (r .sheet) out
         can-write = record { few = omega (arith, few-fields, k .length-is); small = λ i h j. count-small i h (omega (arith, k .length-is)) }

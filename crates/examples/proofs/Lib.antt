@@ -9,4 +9,5 @@ pub mod ExampleMeans
 pub mod LargestGapIs
 pub mod ExampleBound
 pub mod ExampleFirst
+pub mod ExampleWithinLimits
 pub mod ExampleWays

@@ -19,9 +19,9 @@ use Rattle.terms.specs.declared.limits.TermLimits.{TermLimits}
 use Rattle.terms.specs.declared.term.Equation as equation
 use Rattle.terms.specs.Limits.{terms-within, most-count}
 use Rattle.walking.specs.Needs.{SmallShape, GoodRow, GoodTable}
-use Rattle.store.proofs.SoundList.{allows-says}
 use Rattle.tables.proofs.FormedRows.{formed-lower}
 use Rattle.tables.proofs.TableTaken.{equation-taken, RowTaken, table-taken}
+use Rattle.terms.proofs.TermKept.{allows-says}
 
 module _ (limits : TermLimits) (s : List ℕ) (fields : limits .field .0 ≤ last-field) (steps : limits .steps .0 ≤ most-count) where
   equation-small : (e : equation.Equation) → shape-fault limits s (Equation e) ≡ none → Small most-count e

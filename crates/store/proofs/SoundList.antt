@@ -6,15 +6,13 @@ use mathlib.Core.Bool.{true, cond, _&&_}
 use mathlib.Core.List.{List}
 use native.Mathlib.Omega.{arith}
 use native.Mathlib.Decide.{ℕ-discrete}
-use borrow.Author.Tests.{leb-true}
-use lib.Dec.{leb}
 use Rattle.terms.specs.declared.term.Equation.{Equation}
-use Rattle.terms.specs.declared.term.Term.{Term}
 use Rattle.terms.specs.declared.limits.TermLimits.{TermLimits}
 use Rattle.terms.specs.Words.{allows}
 use Rattle.terms.specs.Form.{is-simplified}
 use Rattle.terms.specs.Order.{Order, fields-first}
 use Rattle.terms.proofs.Cases.{by-test}
+use Rattle.terms.proofs.TermKept.{TermKept, allows-says}
 use Rattle.terms.specs.declared.limits.Limits.{Limits}
 use Rattle.store.specs.declared.answer.Opened.the-variants.{Accepted, Refused}
 use Rattle.store.specs.declared.answer.OpenFault.the-variants.{OutOfLimits, NotSimplified, NotAbove}
@@ -44,18 +42,6 @@ module _ (order : Order) (limits : TermLimits) (words : List ℕ) where
       let q = question-in words k in
       by-test (λ t. cond t (cond (is-simplified q) (cond (above-last order words k) Accepted (Refused NotAbove)) (Refused NotSimplified)) (Refused OutOfLimits) ≡ Accepted → t ≡ true)
       (allows limits (q .left) && allows limits (q .right)) (λ _ _. refl) (λ _ e. absurd (let z : _≡_ {A = ℕ} 0 1 = cc in omega arith))
-
--- a term within limits
-pub record TermKept (limits : TermLimits) (t : Term) : Type 0 where
-  pub field-in : t .field .0 ≤ limits .field .0
-  pub steps-in : t .steps .0 ≤ limits .steps .0
-
-pub allows-says : (limits : TermLimits) (t : Term) → allows limits t ≡ true → TermKept limits t
-unfolding allows
-allows-says limits t e = record {
-  field-in = leb-true _ _ (first-passes (leb (t .field .0) (limits .field .0)) (leb (t .steps .0) (limits .steps .0)) e);
-  steps-in = leb-true _ _ (second-passes (leb (t .field .0) (limits .field .0)) (leb (t .steps .0) (limits .steps .0)) e);
-}
 
 pub record QuestionKept (limits : TermLimits) (q : Equation) : Type 0 where
   pub left : TermKept limits (q .left)

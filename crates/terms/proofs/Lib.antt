@@ -4,6 +4,8 @@ pub mod Gap
 pub mod SimplifyCases
 pub mod SimplifyTruth
 pub mod SimplifyForm
+pub mod TermKept
+pub mod GapRange
 pub mod Numbers
 pub mod OneSpelling
 pub mod QuestionOrder

@@ -1,4 +1,4 @@
--- Document 01's limits are what the arrays are made for, and 16 × 256 is at most 65,535.
+-- The papers' limits are what the arrays are made for, and 16 × 1,024 is at most 65,535.
 use mathlib.Core.Path.{_≡_}
 use native.Mathlib.Omega.{arith}
 use Rattle.terms.specs.declared.limits.Limits.{Limits}

@@ -146,7 +146,7 @@ simplify-steps n e h k = simplify-cases (StepsUpTo n) e (λ _ _. tt) (λ _ _. tt
     go d (kept _) = never-or-question-cases (StepsUpTo n) (lowered e) (λ _ _. tt) (λ _. omega arith)
     go d (swapped _) = never-or-question-cases (StepsUpTo n) (lowered (turned e)) (λ _ _. tt) (λ _. omega arith)
 
--- "a signed number from -255 to 255"
+-- of terms with at most n steps, a signed number from -n to n
 pub gap-within : (n : ℕ) (e q : Equation) → e .left .steps .0 ≤ n → e .right .steps .0 ≤ n → simplify e ≡ Question q → natAbs (gap q) ≤ n
 gap-within n e q h k i =
     let s : (q .left .steps .0 ≤ n) × (q .right .steps .0 ≤ n) = rw i at (simplify-steps n e h k) in

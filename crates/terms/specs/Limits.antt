@@ -8,9 +8,9 @@ use Rattle.terms.specs.Words.{field, steps}
 abbrev pub most-fields : ℕ
 most-fields = 16
 
--- "A term is a field and a number of steps, 0 to 255"
+-- "A term is a field and a number of steps", by document 02 (viii) "0 to 1,023"
 abbrev pub most-steps : ℕ
-most-steps = 255
+most-steps = 1023
 
 -- "the number of questions q (0 to 20)"
 abbrev pub most-questions : ℕ
@@ -32,6 +32,6 @@ term-limits = record { field = field most-fields; steps = steps most-steps }
 abbrev pub store-limits : Limits
 store-limits = record { terms = term-limits; questions = most-questions; entries = most-entries }
 
--- the limits of a term in a store of n fields: "field above n or steps above 255"
+-- the limits of a term in a store of n fields: "field above n", and the steps' own limit
 abbrev pub terms-within : Limits → ℕ → TermLimits
 terms-within limits n = record { field = field n; steps = limits .terms .steps }

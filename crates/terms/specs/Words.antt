@@ -34,6 +34,6 @@ word-of t = t .steps .0 * step-weight + t .field .0
 abbrev pub term-of : ℕ → Term
 term-of word = term (field (word % step-weight)) (steps (word / step-weight))
 
--- neither "field above n" nor "steps above 255"
+-- neither "field above n" nor steps above the limit
 unfoldable pub allows : TermLimits → Term → Bool
 allows limits t = leb (t .field .0) (limits .field .0) && leb (t .steps .0) (limits .steps .0)

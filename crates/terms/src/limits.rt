@@ -7,7 +7,7 @@ use crate::term::Steps;
 // The fields of a sheet, the steps of a term, the questions of a list, and the entries of a store.
 pub const MOST_FIELDS: u32 = 16;
 
-const MOST_STEPS: u32 = 255;
+const MOST_STEPS: u32 = 1023;
 
 pub const MOST_QUESTIONS: u32 = 20;
 

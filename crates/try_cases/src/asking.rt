@@ -80,8 +80,8 @@ fn example_in(store: &[u32], handle: u32, sheet: &mut [u16]) {
 
 // Into so many counts that are all 7.
 pub fn example(store: &[u32], handle: u32, length: usize) {
-    let mut sheet = [7u16; 4];
-    if length <= 4 {
+    let mut sheet = [7u16; 16];
+    if length <= 16 {
         example_in(store, handle, &mut sheet[0..length]);
     }
 }

@@ -3,6 +3,7 @@ use crate::comparing::knows;
 use crate::comparing::remark;
 use crate::comparing::same_answer;
 use crate::lending::Lent;
+use crate::lines::MOST_NUMBERS;
 use crate::lines::NO_BAR;
 use crate::lines::Numbers;
 use crate::printing::answer;
@@ -62,11 +63,16 @@ fn expect(store: &[u32], call: Row, given: &[u32], after: &mut [u32]) -> evaluat
     }
 }
 
-// The answer to opening depends on no word of the store.
+// Whether the evaluator knows the answer to a call: the answer to opening depends on no word of the store, and refusals but 51 not on its grid.
+fn is_known(store: &[u32], call: Row, expected: evaluator::Answer) -> bool {
+    let refused = (expected.number != 0) & (expected.number != 51);
+    (call.kind == 0) | refused | knows(store)
+}
+
 fn make(store: &mut [u32], call: Row, given: &[u32]) {
-    let mut after = [0u32; 64];
-    let known = (call.kind == 0) | knows(store);
+    let mut after = [0u32; MOST_NUMBERS];
     let expected = expect(store, call, given, &mut after);
+    let known = is_known(store, call, expected);
     let found = perform(store, call, given);
     answer(found);
     words(store);

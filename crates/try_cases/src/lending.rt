@@ -1,16 +1,17 @@
 // What the calls are lent: the words of a store, and how long a slice for an answer is.
+use crate::lines::MOST_NUMBERS;
 use crate::lines::NO_BAR;
 use crate::lines::Numbers;
 
 pub struct Lent {
-    pub words: [u32; 64],
+    pub words: [u32; MOST_NUMBERS],
     pub length: usize,
     pub out: usize,
 }
 
 pub fn nothing_lent() -> Lent {
     Lent {
-        words: [0; 64],
+        words: [0; MOST_NUMBERS],
         length: 0,
         out: 0,
     }
@@ -20,7 +21,7 @@ pub fn nothing_lent() -> Lent {
 pub fn lend_store(mut lent: Lent, numbers: Numbers) -> Lent {
     let words = numbers.words;
     if numbers.bar == NO_BAR {
-        lent.words = [words[1]; 64];
+        lent.words = [words[1]; MOST_NUMBERS];
         lent.length = words[0] as usize;
         return lent;
     }

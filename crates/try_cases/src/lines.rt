@@ -22,16 +22,19 @@ pub fn byte_at(text: &[u8], place: usize) -> u8 {
     0
 }
 
+// The most numbers of a line, and the most words of a store.
+pub const MOST_NUMBERS: usize = 128;
+
 // The numbers of a line, how many there are, and how many stand before the bar; NO_BAR if there is none.
 pub struct Numbers {
-    pub words: [u32; 64],
+    pub words: [u32; MOST_NUMBERS],
     pub count: usize,
     pub bar: usize,
     // whether the last number may go on
     open: bool,
 }
 
-pub const NO_BAR: usize = 64;
+pub const NO_BAR: usize = MOST_NUMBERS;
 
 // A number with one more digit.
 fn longer(number: u32, digit: u8) -> u32 {
@@ -41,14 +44,14 @@ fn longer(number: u32, digit: u8) -> u32 {
 fn with_digit(mut numbers: Numbers, digit: u8) -> Numbers {
     let at = numbers.count;
     numbers.open = true;
-    if at < 64 {
+    if at < MOST_NUMBERS {
         numbers.words[at] = longer(numbers.words[at], digit);
     }
     numbers
 }
 
 fn ended(mut numbers: Numbers) -> Numbers {
-    numbers.count = numbers.count % 64 + numbers.open as usize % 2;
+    numbers.count = numbers.count % MOST_NUMBERS + numbers.open as usize % 2;
     numbers.open = false;
     numbers
 }
@@ -68,7 +71,7 @@ fn step(numbers: Numbers, byte: u8) -> Numbers {
 
 pub fn numbers_of(line: &[u8]) -> Numbers {
     let mut numbers = Numbers {
-        words: [0; 64],
+        words: [0; MOST_NUMBERS],
         count: 0,
         bar: NO_BAR,
         open: false,

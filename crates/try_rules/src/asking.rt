@@ -3,6 +3,7 @@ ghost use Prim.Native.Nat.{_≤_};
 use crate::calls::throw_handle;
 use crate::chance::Thrown;
 use crate::chance::throw;
+use crate::chance::throw_from;
 use crate::run::Run;
 use crate::run::agree;
 use crate::run::expect_answer;
@@ -69,10 +70,7 @@ fn throw_count(seed: u64) -> Thrown {
     let way = thrown.number;
     match way {
         0 => thrown.number = 65535,
-        1 => {
-            thrown = throw(thrown.seed, 16);
-            thrown.number = 65520 + thrown.number;
-        }
+        1 => thrown = throw_from(thrown.seed, 65520, 16),
         2 => thrown = throw(thrown.seed, 32768),
         _ => thrown = throw(thrown.seed, 8),
     }

@@ -1,6 +1,7 @@
 // Generated calls of build, negate, join and choose, against the evaluator.
 use crate::chance::Thrown;
 use crate::chance::throw;
+use crate::chance::throw_from;
 use crate::ledger::enter;
 use crate::rules::Table;
 use crate::rules::throw_table;
@@ -34,20 +35,14 @@ pub fn throw_handle(seed: u64, store: &[u32]) -> Thrown {
     let thrown = throw(seed, 40);
     let way = thrown.number;
     match way {
-        0 => throw_beyond(thrown.seed, handles),
+        // one of the next handles that would be there
+        0 => throw_from(thrown.seed, handles, 3),
         1 => Thrown {
             number: 4294967295,
             seed: thrown.seed,
         },
         _ => throw(thrown.seed, handles),
     }
-}
-
-// One of the next handles that would be there.
-fn throw_beyond(seed: u64, handles: u32) -> Thrown {
-    let mut thrown = throw(seed, 3);
-    thrown.number = handles % 8192 + thrown.number;
-    thrown
 }
 
 // A call with a table for it, and the seed after both.
@@ -97,7 +92,7 @@ fn compare_read(
 
 // The same at every sixteenth sheet, from the fourth on.
 fn compare_reads(mut run: Run, store: &[u32], call: Row, table: &[u32], handle: u32) -> Run {
-    let sheets = sheets_of(fields(store)) % 1024;
+    let sheets = sheets_of(fields(store)) % 2048;
     for i in 0..(sheets + 12) / 16 {
         run = compare_read(run, store, call, table, handle, 16 * i + 3);
     }

@@ -22,3 +22,10 @@ pub fn throw(seed: u64, bound: u32) -> Thrown
         seed: next % 2147483648,
     }
 }
+
+// One of so many numbers from a least one on, where both are below 65,536.
+pub fn throw_from(seed: u64, least: u32, count: u32) -> Thrown {
+    let mut thrown = throw(seed, count);
+    thrown.number = least % 65536 + thrown.number % 65536;
+    thrown
+}

@@ -61,8 +61,8 @@ const CHANGED: [u64; CHANGES] = [
     02_01_0000000021,
     03_01_4294967295,
     04_01_0000000012,
-    // steps above 255, always, never, and steps on both sides
-    05_04_0000008193,
+    // steps above 1,023, always, never, and steps on both sides
+    05_04_0000032769,
     06_04_0000000002,
     07_04_0000000034,
     08_03_0000000034,

@@ -1,5 +1,6 @@
 // Generated lists of questions, most of them good.
 ghost use Prim.Native.Nat.{_+_, _<_, _^_};
+use crate::chance::Thrown;
 use crate::chance::throw;
 use evaluator::field;
 use evaluator::is_question;
@@ -19,26 +20,44 @@ struct Pair {
     right: u32,
 }
 
-// The c-th of all pairs of three fields with gaps up to 3, in the order of questions: left field, right field, and the steps, 0 to 3 on the
+// The c-th of all pairs of three fields with gaps of up to 3 strides, in the order of questions: left field, right field, and the steps, 0 to 3 strides on the
 // right and then 1 to 3 on the left. Some are no questions, as their right field is not smaller, or they have steps to the left of zero.
-fn pair_at(c: u32) -> Pair {
+fn pair_at(c: u32, stride: u32) -> Pair {
     let left = c / 21 % 3 + 1;
     let right = c / 7 % 3;
     let step = c % 7;
+    let size = stride % 1024 * 32;
     if step < 4 {
         Pair {
             left: left,
-            right: right + step * 32,
+            right: right + step * size,
         }
     } else {
         Pair {
-            left: left + (step - 3) * 32,
+            left: left + (step - 3) * size,
             right: right,
         }
     }
 }
 
-// Whether that is a question over n fields. Gaps of 3 are for up to two fields: n × (K + 1) is then at most nine.
+// With one field the grid covers every gap, so three strides go up to 1,023 there.
+fn throw_stride(n: u32, seed: u64) -> Thrown {
+    let mut thrown = throw(seed, 341);
+    let way = throw(thrown.seed, 4);
+    let number = thrown.number % 341 + 1;
+    thrown.seed = way.seed;
+    thrown.number = match way.number {
+        0 => 1,
+        1 => 341,
+        _ => number,
+    };
+    if n != 1 {
+        thrown.number = 1;
+    }
+    thrown
+}
+
+// Whether that is a question over n fields. Gaps of 3 are for up to two fields: of two fields n × (K + 1) is then at most nine.
 fn is_candidate(n: u32, left: u32, right: u32) -> bool {
     let wide = (n == 3) & (left / 32 + right / 32 == 3);
     is_question(left, right) & (field(left) <= n) & !wide
@@ -69,14 +88,15 @@ fn throw_question(mut list: List, times: u32, pair: Pair) -> List {
 pub fn throw_list(seed: u64) -> List {
     let n = throw(seed, 7);
     let times = throw(n.seed, 4);
+    let stride = throw_stride(n.number / 2, times.seed);
     let mut list = List {
         n: n.number / 2,
         words: [0; 44],
         length: 0,
-        seed: times.seed,
+        seed: stride.seed,
     };
     for c in 0..63u32 {
-        let pair = pair_at(c);
+        let pair = pair_at(c, stride.number);
         if (list.length < 16) & is_candidate(list.n, pair.left, pair.right) {
             list = throw_question(list, times.number + 1, pair);
         }
@@ -121,9 +141,10 @@ pub fn spoil(mut list: List) -> List {
         0 => list.n = 17,
         1 => list.length = list.length % 40 + 1,
         2 => list.length = 42,
-        // steps above 255
-        3 => return spoil_word(list, 8192, 2048),
-        4 | 5 => return spoil_word(list, 0, 128),
+        // steps above 1,023, and from 1,021 to 1,024
+        3 => return spoil_word(list, 32768, 2048),
+        4 => return spoil_word(list, 32672, 128),
+        5 => return spoil_word(list, 0, 128),
         6 => return spoil_pair(list, true),
         7 => return spoil_pair(list, false),
         _ => {}

@@ -1,6 +1,8 @@
 // Generated rule tables over a store's list, most of them good.
 use crate::chance::Thrown;
 use crate::chance::throw;
+use crate::chance::throw_from;
+use evaluator::MOST_STEPS;
 use evaluator::Row;
 use evaluator::left_of;
 use evaluator::questions;
@@ -43,17 +45,33 @@ fn equation(left: u32, right: u32, seed: u64) -> Line {
     }
 }
 
-// A question of the list as an equation: with some steps more on both sides, and perhaps turned round.
+// Steps to put on both sides of a question of a given gap: few, or as many as there may be, or, now and then, just up to the limit or one beyond it.
+fn throw_raise(seed: u64, gap: u32) -> Thrown {
+    let spare = MOST_STEPS - gap % (MOST_STEPS + 1);
+    let way = throw(seed, 24);
+    let number = way.number;
+    match number {
+        0 => throw_from(way.seed, spare, 2),
+        1..=7 => throw(way.seed, 3),
+        _ => throw(way.seed, spare + 1),
+    }
+}
+
+// A question as an equation: with the same steps more on both sides, and perhaps turned round. One side of a question has no steps.
+fn throw_raised(seed: u64, left: u32, right: u32) -> Line {
+    let more = throw_raise(seed, left / 32 + right / 32);
+    let round = throw(more.seed, 2);
+    let size = more.number % 2048 * 32;
+    if round.number == 0 {
+        return equation(right % 32768 + size, left % 32768 + size, round.seed);
+    }
+    equation(left % 32768 + size, right % 32768 + size, round.seed)
+}
+
 fn throw_listed(seed: u64, store: &[u32]) -> Line {
     let k = throw(seed, questions(store));
-    let more = throw(k.seed, 3);
-    let round = throw(more.seed, 2);
-    let left = left_of(store, k.number % 20 + 1) % 8192 + more.number * 32;
-    let right = right_of(store, k.number % 20 + 1) % 8192 + more.number * 32;
-    if round.number == 0 {
-        return equation(right, left, round.seed);
-    }
-    equation(left, right, round.seed)
+    let number = k.number % 20 + 1;
+    throw_raised(k.seed, left_of(store, number), right_of(store, number))
 }
 
 // An equation that may be on the list or not: terms of a field up to 4, which may be too large, and up to 2 steps.
@@ -152,7 +170,9 @@ fn throw_row(seed: u64, store: &[u32], r: u32) -> Line {
     match way {
         0 => throw_junk(good.seed),
         1 | 2 => throw_equation(good.seed),
-        3 => equation(8193, 1, good.seed),
+        // S1024(1) = 1 is beyond the limit, and S1023(1) = 1 is not
+        3 => equation(32769, 1, good.seed),
+        4 => equation(32737, 1, good.seed),
         _ => throw_good(good.seed, store, r),
     }
 }

@@ -2,13 +2,15 @@
 ghost use Prim.Native.Nat.{_<_, _^_};
 use crate::chance::Thrown;
 use crate::chance::throw;
+use crate::chance::throw_from;
 use crate::run::Run;
 use crate::run::agree;
 use crate::run::expect_number;
+use evaluator::MOST_STEPS;
 use evaluator::bad_term;
 use evaluator::holds;
 use evaluator::is_question;
-use evaluator::steps;
+use evaluator::value;
 use sheet::sheet_simplify;
 use terms::SimplifyAnswer;
 
@@ -41,20 +43,24 @@ fn throw_low_term(seed: u64) -> Thrown {
     }
 }
 
-// A term of a field up to 17 and a few steps, or some near the limit.
+// A number of steps: a few, any up to the limit, or some near 8 bits or near the limit.
+fn throw_steps(seed: u64) -> Thrown {
+    let way = throw(seed, 8);
+    let number = way.number;
+    match number {
+        0 => throw_from(way.seed, 252, 8),
+        1 => throw_from(way.seed, MOST_STEPS - 3, 8),
+        2 | 3 => throw(way.seed, MOST_STEPS + 1),
+        _ => throw(way.seed, 4),
+    }
+}
+
+// A term of a field up to 17.
 fn throw_term(seed: u64) -> Thrown {
     let field = throw(seed, 18);
-    let far = throw(field.seed, 4);
-    if far.number == 0 {
-        let more = throw(far.seed, 7);
-        return Thrown {
-            number: field.number + (250 + more.number) * 32,
-            seed: more.seed,
-        };
-    }
-    let steps = throw(far.seed, 4);
+    let steps = throw_steps(field.seed);
     Thrown {
-        number: field.number + steps.number * 32,
+        number: field.number + steps.number % 2048 * 32,
         seed: steps.seed,
     }
 }
@@ -85,16 +91,47 @@ fn same_truth(left: u32, right: u32, a: SimplifyAnswer, sheet: &[u16; 16]) -> bo
     holds(sheet, left, right) == truth
 }
 
-// Compares at one thrown sheet.
-fn compare_sheet(mut run: Run, left: u32, right: u32, a: SimplifyAnswer) -> Run {
-    let sheet = throw_sheet(run.seed);
+fn raised_count(count: u16, by: u32) -> u16 {
+    ((count as u32 + by % 65536) % 65536) as u16
+}
+
+// A sheet with the count of a term's field raised, if it has that field.
+fn raise(mut sheet: Sheet, term: u32, by: u32) -> Sheet {
+    let place = (term % 32) as usize;
+    if place > 0 {
+        if place <= 16 {
+            sheet.counts[place - 1] = raised_count(sheet.counts[place - 1], by);
+        }
+    }
+    sheet
+}
+
+// A sheet with the smaller side of an equation raised to the larger, so that the equation is true, however large its gap.
+fn meet(sheet: Sheet, left: u32, right: u32) -> Sheet {
+    let counts = sheet.counts;
+    let a = value(&counts, left);
+    let b = value(&counts, right);
+    if a < b {
+        return raise(sheet, left, b - a);
+    }
+    raise(sheet, right, a - b)
+}
+
+fn compare_at(mut run: Run, left: u32, right: u32, a: SimplifyAnswer, sheet: Sheet) -> Run {
     let counts = sheet.counts;
     run.seed = sheet.seed;
     agree(run, same_truth(left, right, a, &counts))
 }
 
+// Compares at a thrown sheet of small counts, and at one that makes the equation true, where there is one.
+fn compare_sheet(mut run: Run, left: u32, right: u32, a: SimplifyAnswer) -> Run {
+    run = compare_at(run, left, right, a, throw_sheet(run.seed));
+    let sheet = throw_sheet(run.seed);
+    compare_at(run, left, right, a, meet(sheet, left, right))
+}
+
 fn compare_sheets(mut run: Run, left: u32, right: u32, a: SimplifyAnswer) -> Run {
-    for i in 0..12u32 {
+    for i in 0..6u32 {
         run = compare_sheet(run, left, right, a);
     }
     run
@@ -118,11 +155,15 @@ fn try_thrown(mut run: Run) -> Run {
     compare_equation(run, left.number, right.number)
 }
 
+// Terms of few steps, and the same number of steps more on both sides: none, or any that brings a side at most one beyond the limit.
 fn try_low(mut run: Run) -> Run {
     let left = throw_low_term(run.seed);
     let right = throw_low_term(left.seed);
-    run.seed = right.seed;
-    compare_equation(run, left.number, right.number)
+    let more = throw(right.seed, MOST_STEPS);
+    let size = more.number * 32;
+    run.seed = more.seed;
+    run = compare_equation(run, left.number, right.number);
+    compare_equation(run, left.number % 1024 + size, right.number % 1024 + size)
 }
 
 pub fn try_equations(mut run: Run) -> Run {

@@ -17,26 +17,50 @@ pub struct Survey {
 #[derive(Clone, Copy)]
 pub struct Size {
     pub fields: (u32, u32),
-    pub most_steps: u32,
+    pub gaps: Gaps,
     pub most_questions: u32,
 }
 
-/// All sheets of a box can be tried.
-pub const SMALL: Size = Size { fields: (0, 3), most_steps: 2, most_questions: 8 };
-/// Enough fields for facts to meet in many ways.
-pub const MIDDLE: Size = Size { fields: (3, 6), most_steps: 3, most_questions: 12 };
-/// Few fields with many questions and large gaps.
-pub const TALL: Size = Size { fields: (1, 2), most_steps: MOST_STEPS, most_questions: MOST_QUESTIONS as u32 };
-/// Many fields; few questions, so that the walk stays short.
-pub const WIDE: Size = Size { fields: (9, MOST_FIELDS), most_steps: 40, most_questions: 9 };
+/// Gaps are multiples of a stride.
+#[derive(Clone, Copy)]
+pub struct Gaps {
+    pub stride: u32,
+    pub most_strides: u32,
+}
 
-pub const SIZES: [Size; 4] = [SMALL, MIDDLE, TALL, WIDE];
+impl Gaps {
+    /// Every gap up to a number of steps.
+    pub const fn up_to(most_steps: u32) -> Gaps {
+        Gaps { stride: 1, most_strides: most_steps }
+    }
+
+    /// A number of steps: small in half of all cases.
+    fn steps(self, random: &mut Random) -> u32 {
+        let most = if random.one_in(2) { self.most_strides.min(2) } else { self.most_strides };
+        self.stride * random.below(most + 1)
+    }
+}
+
+/// All sheets of a box can be tried.
+pub const SMALL: Size = Size { fields: (0, 3), gaps: Gaps::up_to(2), most_questions: 8 };
+/// Enough fields for facts to meet in many ways.
+pub const MIDDLE: Size = Size { fields: (3, 6), gaps: Gaps::up_to(3), most_questions: 12 };
+/// The same with gaps up to the limit of steps, so far apart that one more or less makes a fact miss another.
+pub const FAR: Size =
+    Size { fields: (2, 6), gaps: Gaps { stride: MOST_STEPS / 3, most_strides: 3 }, most_questions: 12 };
+/// Few fields with many questions and large gaps.
+pub const TALL: Size =
+    Size { fields: (1, 2), gaps: Gaps::up_to(MOST_STEPS), most_questions: MOST_QUESTIONS as u32 };
+/// Many fields; few questions, so that the walk stays short.
+pub const WIDE: Size = Size { fields: (9, MOST_FIELDS), gaps: Gaps::up_to(MOST_STEPS), most_questions: 9 };
+
+pub const SIZES: [Size; 5] = [SMALL, MIDDLE, FAR, TALL, WIDE];
 
 /// A question in its simplified form: the larger field left, steps on one side only, none left against zero.
-fn question(random: &mut Random, n: u32, most_steps: u32) -> [u32; 2] {
+fn question(random: &mut Random, n: u32, gaps: Gaps) -> [u32; 2] {
     let left = random.between(1, n);
     let right = random.below(left);
-    let steps = if random.one_in(2) { random.below(most_steps.min(2) + 1) } else { random.below(most_steps + 1) };
+    let steps = gaps.steps(random);
     let steps_left = right != 0 && random.one_in(2);
     let (left_steps, right_steps) = if steps_left { (steps, 0) } else { (0, steps) };
     [Term { field: left, steps: left_steps }.word(), Term { field: right, steps: right_steps }.word()]
@@ -59,8 +83,14 @@ pub fn in_order(mut questions: Vec<[u32; 2]>) -> Vec<u32> {
 pub fn survey(random: &mut Random, size: Size) -> Survey {
     let n = random.between(size.fields.0, size.fields.1);
     let wanted = if n == 0 { 0 } else { random.below(size.most_questions + 1) };
-    let list = in_order((0..wanted).map(|_| question(random, n, size.most_steps)).collect());
+    let list = in_order((0..wanted).map(|_| question(random, n, size.gaps)).collect());
     Survey { n, list }
+}
+
+/// A word of a small field with steps around 8 bits or around their limit.
+fn edge_word(random: &mut Random) -> u32 {
+    let steps = *random.pick(&[254, 255, 256, 257, MOST_STEPS - 1, MOST_STEPS, MOST_STEPS + 1, MOST_STEPS + 2]);
+    Term { field: random.below(3), steps }.word()
 }
 
 /// A survey that opening mostly refuses.
@@ -77,14 +107,15 @@ pub fn faulty_survey(random: &mut Random) -> Survey {
         3 => {
             let pairs = *random.pick(&[20, 21, 22, 40]);
             n = MOST_FIELDS;
-            list = in_order((0..4 * pairs).map(|_| question(random, n, MOST_STEPS)).collect());
+            list = in_order((0..4 * pairs).map(|_| question(random, n, Gaps::up_to(MOST_STEPS))).collect());
             list.truncate(2 * pairs as usize);
         }
         // A word at or beyond the limits of fields and steps.
         4 if !list.is_empty() => {
             let at = random.place(list.len());
-            let longer = [list[at] + 32 * MOST_STEPS, list[at] + 32 * (MOST_STEPS + 1)];
-            list[at] = *random.pick(&[8160, 8192, 8191, 31, 17, 16, u32::MAX, longer[0], longer[1]]);
+            let longer = [MOST_STEPS, MOST_STEPS + 1].map(|steps| list[at] + 32 * steps);
+            let word = edge_word(random);
+            list[at] = *random.pick(&[word, word, 31, 17, 16, u32::MAX, longer[0], longer[1]]);
         }
         // Two questions exchanged.
         5 if list.len() > 3 => {
@@ -106,7 +137,7 @@ pub fn faulty_survey(random: &mut Random) -> Survey {
         // One bit flipped.
         7 if !list.is_empty() => {
             let at = random.place(list.len());
-            list[at] ^= 1 << random.below(15);
+            list[at] ^= 1 << random.below(16);
         }
         // Any small words.
         _ => list = (0..random.below(50)).map(|_| random.word() % 70).collect(),
@@ -243,18 +274,21 @@ pub fn faulty_rule(random: &mut Random, survey: &Survey) -> Vec<u32> {
             let [a, b] = equation(random, survey);
             words[row..row + 4].copy_from_slice(&[2, a, b, 0]);
             let column = random.between(1, 2) as usize;
-            words[row + column] = *random.pick(&[survey.n + 1, 17, 31, 8192, 8160, u32::MAX, a + 8192]);
+            let word = edge_word(random);
+            let longer = words[row + column] + 32 * (MOST_STEPS + 1);
+            words[row + column] = *random.pick(&[survey.n + 1, 17, 31, word, word, u32::MAX, longer]);
         }
         // An equation that is hardly on the list.
         9 | 10 => {
-            let [a, b] = [0; 2].map(|_| Term { field: random.below(survey.n + 1), steps: random.below(6) });
+            let most = *random.pick(&[5, 5, MOST_STEPS]);
+            let [a, b] = [0; 2].map(|_| Term { field: random.below(survey.n + 1), steps: random.below(most + 1) });
             words[row..row + 4].copy_from_slice(&[2, a.word(), b.word(), 0]);
         }
         // Bits flipped anywhere.
         _ => {
             for _ in 0..random.between(1, 3) {
                 let at = random.place(words.len());
-                words[at] ^= 1 << random.below(12);
+                words[at] ^= 1 << random.below(16);
             }
         }
     }
@@ -394,8 +428,8 @@ pub fn damage(random: &mut Random, store: &mut Vec<u32>, fault: Fault) {
         Fault::Used => store[2] = *random.pick(&[used + 1, used / 2, 4097, u32::MAX, 1_431_655_766, 2_863_311_531]),
         Fault::CutInList => store.truncate(random.place(list.end + 1)),
         Fault::CutInEntries => store.truncate(entries.end - random.between(1, 3) as usize),
-        Fault::ListBit if q > 0 => store[list_word(random)] ^= 1 << random.below(14),
-        Fault::ListTerm if q > 0 => store[list_word(random)] = *random.pick(&[8192, 31, n + 1, u32::MAX]),
+        Fault::ListBit if q > 0 => store[list_word(random)] ^= 1 << random.below(16),
+        Fault::ListTerm if q > 0 => store[list_word(random)] = *random.pick(&[32 * (MOST_STEPS + 1), 31, n + 1, u32::MAX]),
         Fault::NotSimplified if q > 0 => {
             let at = list.start + 2 * random.place(q as usize);
             store.swap(at, at + 1);

@@ -19,7 +19,7 @@ pub use plain::{possible_by_bounds, possible_by_counting, sheets_by_bounds, shee
 /// The largest number of fields of a sheet.
 pub const MOST_FIELDS: u32 = 16;
 /// The largest number of steps of a term.
-pub const MOST_STEPS: u32 = 255;
+pub const MOST_STEPS: u32 = 1023;
 /// The largest number of questions in a list.
 pub const MOST_QUESTIONS: usize = 20;
 /// The largest number of entries in a store.

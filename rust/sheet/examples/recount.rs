@@ -24,7 +24,7 @@ fn main() -> Result<(), sheet::Refusal> {
     println!("the first sheet that breaks a rule: {:?}", store.example(broken)?);
     println!("4 adults, 1 calf, recount 6: {}", store.read(both, &[4, 1, 6])?);
 
-    let refusal = store.build(&calves.equals(ZERO + 300).into()).unwrap_err();
+    let refusal = store.build(&calves.equals(ZERO + 1_100).into()).unwrap_err();
     println!("refused with {}: {refusal}", refusal.number());
     Ok(())
 }

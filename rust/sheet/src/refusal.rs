@@ -11,7 +11,7 @@ use std::fmt;
 /// assert_eq!(refusal.number(), 14);
 /// assert_eq!(
 ///     refusal.to_string(),
-///     "a term of the list has a field above the sheet's last one, or more than 255 steps"
+///     "a term of the list has a field above the sheet's last one, or more than 1,023 steps"
 /// );
 /// ```
 #[derive(Clone, Copy, Debug, PartialEq, Eq, Hash)]
@@ -23,7 +23,7 @@ pub enum Refusal {
     OddList = 12,
     /// 13: more than 20 questions.
     TooManyQuestions = 13,
-    /// 14: a field above n or steps above 255 in the list.
+    /// 14: a field above n or steps above 1,023 in the list.
     ListTerm = 14,
     /// 15: an equation of the list that isn't a simplified question.
     NotSimplified = 15,
@@ -43,7 +43,7 @@ pub enum Refusal {
     TooManyRows = 33,
     /// 34: an unknown kind of row, a nonzero unused column, or a reference that isn't to a lower row.
     BadRow = 34,
-    /// 35: a field above n or steps above 255 in a rule, or in an equation to be simplified.
+    /// 35: a field above n or steps above 1,023 in a rule, or in an equation to be simplified.
     RuleTerm = 35,
     /// 36: an equation that is neither always nor never nor on the list.
     NotListed = 36,
@@ -106,7 +106,7 @@ impl fmt::Display for Refusal {
             Refusal::TooManyFields => "a sheet has at most 16 fields",
             Refusal::OddList => "the list has an odd number of words, but each question takes two",
             Refusal::TooManyQuestions => "a list has at most 20 questions",
-            Refusal::ListTerm => "a term of the list has a field above the sheet's last one, or more than 255 steps",
+            Refusal::ListTerm => "a term of the list has a field above the sheet's last one, or more than 1,023 steps",
             Refusal::NotSimplified => "an equation of the list is not a simplified question",
             Refusal::NotAscending => {
                 "the list is not in order: each question must stand above the one before it, by left field, right field, left steps, right steps"
@@ -120,7 +120,7 @@ impl fmt::Display for Refusal {
             Refusal::BadRow => {
                 "a row of the rule has an unknown kind, something in an unused column, or a reference to a row that is not lower"
             }
-            Refusal::RuleTerm => "a term has a field above the sheet's last one, or more than 255 steps",
+            Refusal::RuleTerm => "a term has a field above the sheet's last one, or more than 1,023 steps",
             Refusal::NotListed => "an equation of the rule is not on the store's list of questions",
             Refusal::NoSuchHandle => "the store has no such handle",
             Refusal::NoRoom => "the store has no room for the rule's diagram",

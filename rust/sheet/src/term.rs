@@ -16,7 +16,7 @@ pub const ZERO: Field = Field(0);
 #[derive(Clone, Copy, Debug, PartialEq, Eq, Hash, PartialOrd, Ord)]
 pub struct Steps(pub u32);
 
-/// A field's count plus a number of steps. Up to 255 steps are accepted.
+/// A field's count plus a number of steps. Up to 1,023 steps are accepted.
 ///
 /// ```
 /// use sheet::{Field, Term, ZERO};
@@ -117,7 +117,7 @@ pub enum Simplified {
 }
 
 impl Equation {
-    /// Simplifies the equation. [`Refusal::RuleTerm`] if a field is above 16 or steps are above 255.
+    /// Simplifies the equation. [`Refusal::RuleTerm`] if a field is above 16 or steps are above 1,023.
     ///
     /// ```
     /// use sheet::{Field, Simplified, ZERO};

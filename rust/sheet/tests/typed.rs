@@ -16,9 +16,23 @@ fn opening_is_refused() {
     assert_eq!(refusal(17, &pairs()), Refusal::TooManyFields);
     assert_eq!(refusal(1, &numbers(21)), Refusal::TooManyQuestions);
     assert_eq!(refusal(2, &pairs()), Refusal::ListTerm);
-    assert_eq!(refusal(3, &[Field(1).equals(ZERO + 256)]), Refusal::ListTerm);
+    assert_eq!(refusal(3, &[Field(1).equals(ZERO + 1_024)]), Refusal::ListTerm);
     assert_eq!(refusal(3, &[Field(1).equals(Field(2))]), Refusal::NotSimplified);
     assert_eq!(refusal(3, &[pairs()[1], pairs()[0]]), Refusal::NotAscending);
+}
+
+#[test]
+fn steps_go_up_to_their_limit() {
+    // The aerial count is the deck count plus 400.
+    let (deck, aerial) = (Field(1), Field(2));
+    let mut store = Store::open(2, [aerial.equals(deck + 400), aerial.equals(deck + 1_023)], 10).unwrap();
+    let higher = store.build(&aerial.equals(deck + 400).into()).unwrap();
+    assert_eq!(store.example(higher), Ok(vec![0, 400]));
+    let highest = store.build(&aerial.equals(deck + 1_023).into()).unwrap();
+    assert_eq!(store.example(highest), Ok(vec![0, 1_023]));
+    assert_eq!(store.build(&aerial.equals(deck + 401).into()), Err(Refusal::NotListed));
+    assert_eq!(store.build(&aerial.equals(deck + 1_024).into()), Err(Refusal::RuleTerm));
+    assert_eq!((aerial + 1).equals(deck + 1_024).simplify(), Err(Refusal::RuleTerm));
 }
 
 #[test]

@@ -11,7 +11,7 @@ use std::time::{Duration, Instant};
 use compare::generate::{in_order, parity_rule, sound_entries, store_of, tangled_rule, Survey};
 use compare::library::Library;
 use compare::random::Random;
-use independent::{Fast, Operations, Term, HEADING, MOST_ENTRIES};
+use independent::{Fast, Operations, Term, HEADING, MOST_ENTRIES, MOST_STEPS};
 
 /// A row's process is ended after this time.
 const MOST_TIME: Duration = Duration::from_secs(60);
@@ -212,7 +212,7 @@ fn small_rows() -> Vec<Row> {
     vec![
         row(GROUP, "simplify, 1,000 pairs of terms", || {
             let mut random = Random::new(3);
-            let term = |random: &mut Random| Term { field: random.below(17), steps: random.below(256) }.word();
+            let term = |random: &mut Random| Term { field: random.below(17), steps: random.below(MOST_STEPS + 1) }.word();
             let pairs: Vec<(u32, u32)> = (0..1000).map(|_| (term(&mut random), term(&mut random))).collect();
             Box::new(move |operations| {
                 let start = Instant::now();

@@ -1,10 +1,10 @@
-//! Document 01's fourteen cases, with the answers that it gives.
+//! Document 01's fourteen cases and those of document 02's requests, with the answers that they give.
 
 use compare::calls::{Call, Outcome};
 use compare::comparison::Comparison;
 use compare::random::Random;
 
-const EXACT: &str = "a case of document 01";
+const EXACT: &str = "a case of the documents";
 
 fn opened(comparison: &mut Comparison, n: u32, list: &[u32], length: usize) -> Vec<u32> {
     let outcome = comparison.call(&Call::Open { n, list: list.to_vec() }, &vec![1; length]);
@@ -36,6 +36,7 @@ const THREE: [u32; 6] = [2, 1, 3, 1, 3, 2];
 
 pub fn document_cases(comparison: &mut Comparison, _: &mut Random, _: u64) {
     terms(comparison);
+    steps(comparison);
     smallest_store(comparison);
     three_fields(comparison);
     examples(comparison);
@@ -49,11 +50,68 @@ fn terms(comparison: &mut Comparison) {
     simplified(comparison, 33, 65, (0, 0, 0, 0, 0));
     simplified(comparison, 33, 33, (0, 1, 0, 0, 0));
     simplified(comparison, 65, 64, (0, 2, 1, 0, 0));
-    simplified(comparison, 1, 8160, (0, 2, 1, 8160, 255));
-    simplified(comparison, 1, 8192, (35, 0, 0, 0, 0));
-    opened(comparison, 1, &[1, 8160], 5);
-    let refused = comparison.call(&Call::Open { n: 1, list: vec![1, 8192] }, &[1; 5]);
+    simplified(comparison, 1, 32736, (0, 2, 1, 32736, 1023));
+    simplified(comparison, 1, 32768, (35, 0, 0, 0, 0));
+    simplified(comparison, 32768, 1, (35, 0, 0, 0, 0));
+    opened(comparison, 1, &[1, 32736], 5);
+    let refused = comparison.call(&Call::Open { n: 1, list: vec![1, 32768] }, &[1; 5]);
     answer(comparison, &refused, 14, 0);
+}
+
+/// Document 02's (viii): up to 1,023 steps.
+fn steps(comparison: &mut Comparison) {
+    simplified(comparison, 1, 8192, (0, 2, 1, 8192, 256));
+    for (a, b) in [(15, 32752), (32752, 15)] {
+        simplified(comparison, a, b, (0, 2, 32752, 15, -1023));
+    }
+    steps_on_the_left(comparison);
+    steps_added_up(comparison);
+    steps_in_a_store(comparison);
+}
+
+fn example(comparison: &mut Comparison, store: &[u32], handle: u32, expected: &[u16]) {
+    let example = comparison.call(&Call::Example { handle, sheet: vec![9; expected.len()] }, store);
+    answer(comparison, &example, 0, 0);
+    equal(comparison, &example.sheet[..], expected);
+}
+
+/// S1023(2) = 1, and its negation.
+fn steps_on_the_left(comparison: &mut Comparison) {
+    let store = opened(comparison, 2, &[32738, 1], 11);
+    let equation = built(comparison, &store, &[[2, 1, 32738, 0]]);
+    answer(comparison, &equation, 0, 2);
+    equal(comparison, &equation.store, &vec![2, 1, 1, 32738, 1, 1, 1, 0, 0, 0, 0]);
+    let negation = comparison.call(&Call::Negate(2), &equation.store);
+    answer(comparison, &negation, 0, 3);
+    example(comparison, &negation.store, 2, &[1023, 0]);
+    example(comparison, &negation.store, 3, &[0, 0]);
+}
+
+/// 1 = S1023(0), 2 = S1023(1) and so on to 16 = S1023(15).
+fn steps_added_up(comparison: &mut Comparison) {
+    let list: Vec<u32> = (1..=16).flat_map(|field| [field, 32736 + field - 1]).collect();
+    let store = opened(comparison, 16, &list, 83);
+    let mut rows: Vec<[u32; 4]> = list.chunks(2).map(|pair| [2, pair[0], pair[1], 0]).collect();
+    rows.push([4, 0, 1, 0]);
+    rows.extend((2..16).map(|row| [4, row, 14 + row, 0]));
+    let all = built(comparison, &store, &rows);
+    answer(comparison, &all, 0, 17);
+    let counts: Vec<u16> = (1..=16).map(|field| 1023 * field).collect();
+    example(comparison, &all.store, 17, &counts);
+}
+
+/// A store whose question has 1,023 steps is sound, and one with 1,024 is not.
+fn steps_in_a_store(comparison: &mut Comparison) {
+    let store = [1, 1, 0, 1, 32736, 0, 0, 0];
+    let rules = [([2, 1, 32736, 0], 0, 2), ([2, 1, 32768, 0], 35, 0), ([2, 33, 32768, 0], 35, 0), ([2, 1, 8192, 0], 36, 0)];
+    for (row, number, result) in rules {
+        let outcome = built(comparison, &store, &[row]);
+        answer(comparison, &outcome, number, result);
+    }
+    for (word, number) in [(32736, 0), (32768, 22)] {
+        let verdict = comparison.call(&Call::Verdict(0), &[1, 1, 0, 1, word]);
+        answer(comparison, &verdict, number, 0);
+    }
 }
 
 /// Case 5.

@@ -9,10 +9,10 @@ use independent::{Fast, Operations, Term};
 
 /// Simplify on words at the limits, on random ones, and its answer against the truth at random counts.
 pub fn simplify(comparison: &mut Comparison, random: &mut Random, cases: u64) {
-    let steps = [0, 1, 2, 127, 254, 255, 256, 257];
+    let steps = [0, 1, 2, 127, 254, 255, 256, 257, 1022, 1023, 1024, 1025];
     let words: Vec<u32> =
         steps.iter().flat_map(|steps| (0..32).map(move |field| Term { field, steps: *steps }.word())).collect();
-    for a in words.iter().chain(&[8160, 8192, u32::MAX, u32::MAX - 31, 1 << 31]) {
+    for a in words.iter().chain(&[65_536, 1 << 21, u32::MAX, u32::MAX - 31, 1 << 31]) {
         for b in &words {
             simplify_one(comparison, random, *a, *b);
         }
@@ -20,7 +20,8 @@ pub fn simplify(comparison: &mut Comparison, random: &mut Random, cases: u64) {
     for _ in 0..50 * cases {
         let [a, b] = [0; 2].map(|_| match random.below(8) {
             0 => random.word(),
-            1 => random.below(8500),
+            1 => random.below(34_000),
+            2..=4 => Term { field: random.below(5), steps: random.below(1_100) }.word(),
             _ => Term { field: random.below(5), steps: random.below(300) }.word(),
         });
         simplify_one(comparison, random, a, b);
@@ -35,7 +36,7 @@ fn simplify_one(comparison: &mut Comparison, random: &mut Random, a: u32, b: u32
     // Counts that are close together, so that equations are often true.
     let mut counts = [0; 17];
     let [a, b] = [a, b].map(Term::of_word);
-    let near = random.below(600);
+    let near = random.below(2_000);
     counts[1..].iter_mut().for_each(|count| *count = near + random.below(4));
     if random.one_in(2) {
         let (low, high) = if a.steps < b.steps { (b, a) } else { (a, b) };

@@ -2,7 +2,7 @@
 
 use compare::calls::Call;
 use compare::comparison::Comparison;
-use compare::generate::{self, store_of, Size, Survey};
+use compare::generate::{self, store_of, Gaps, Size, Survey};
 use compare::random::Random;
 use independent::{FIRST_ENTRY, HEADING, MOST_ENTRIES, MOST_FIELDS, MOST_QUESTIONS, MOST_ROWS};
 
@@ -150,7 +150,7 @@ pub fn large_diagrams(comparison: &mut Comparison, random: &mut Random, cases: u
 
 /// Parity of sixteen questions about sixteen fields, where the walk goes through tens of thousands of combinations of answers.
 fn long_walks(comparison: &mut Comparison, random: &mut Random) {
-    let wide = Size { fields: (MOST_FIELDS, MOST_FIELDS), most_steps: 9, most_questions: 16 };
+    let wide = Size { fields: (MOST_FIELDS, MOST_FIELDS), gaps: Gaps::up_to(9), most_questions: 16 };
     let survey = generate::survey(random, wide);
     let store = open(comparison, &survey, MOST_ENTRIES);
     let parity = comparison.call(&Call::Build { rule: generate::parity_rule(&survey.list) }, &store);
@@ -163,7 +163,7 @@ fn long_walks(comparison: &mut Comparison, random: &mut Random) {
 /// A list of many questions, which are about so few fields that there are some thousand combinations of answers at most.
 fn dense_survey(random: &mut Random) -> Survey {
     loop {
-        let survey = generate::survey(random, Size { fields: (6, 8), most_steps: 2, most_questions: 18 });
+        let survey = generate::survey(random, Size { fields: (6, 8), gaps: Gaps::up_to(2), most_questions: 18 });
         if survey.list.len() >= 2 * 14 {
             return survey;
         }

@@ -2,7 +2,7 @@
 
 use compare::calls::Call;
 use compare::comparison::{bounds_are_affordable, counting_is_affordable, questions_of, Comparison};
-use compare::generate::{self, Size, Survey};
+use compare::generate::{self, Gaps, Size, Survey, FAR};
 use compare::ledger::Ledger;
 use compare::random::Random;
 use independent::{largest_count, possible_by_bounds, possible_by_counting, HEADING, MOST_FIELDS, MOST_STEPS};
@@ -10,7 +10,7 @@ use independent::{largest_count, possible_by_bounds, possible_by_counting, HEADI
 /// That difference bounds and trying all counts find the same combinations of answers.
 pub fn possible_answers(comparison: &mut Comparison, random: &mut Random, cases: u64) {
     for _ in 0..cases {
-        let size = *random.pick(&[generate::SMALL, generate::SMALL, generate::MIDDLE, generate::TALL]);
+        let size = *random.pick(&[generate::SMALL, generate::SMALL, generate::MIDDLE, FAR, generate::TALL]);
         let Survey { n, list } = generate::survey(random, size);
         let questions = questions_of(&list);
         if counting_is_affordable(n, &questions) && bounds_are_affordable(n, &questions) {
@@ -95,8 +95,8 @@ fn test_bound(comparison: &mut Comparison, survey: &Survey, sheet: &[u16]) {
 /// Long lists about many fields, with rules that give each question a certain answer: paths with up to twenty facts.
 pub fn long_paths(comparison: &mut Comparison, random: &mut Random, cases: u64) {
     for _ in 0..cases {
-        let most_steps = *random.pick(&[1, 3, 30, MOST_STEPS]);
-        let survey = generate::survey(random, Size { fields: (1, MOST_FIELDS), most_steps, most_questions: 20 });
+        let gaps = *random.pick(&[Gaps::up_to(1), Gaps::up_to(3), FAR.gaps, Gaps::up_to(MOST_STEPS)]);
+        let survey = generate::survey(random, Size { fields: (1, MOST_FIELDS), gaps, most_questions: 20 });
         let open = Call::Open { n: survey.n, list: survey.list.clone() };
         let mut store = comparison.call(&open, &vec![0; HEADING + survey.list.len() + 3 * 1_000]).store;
         let mut handles = Vec::new();
@@ -200,7 +200,7 @@ impl Formula {
 /// Formulas that are alike by Boolean algebra, with built rules as letters, give equal handles.
 pub fn laws(comparison: &mut Comparison, random: &mut Random, cases: u64) {
     for _ in 0..cases / 4 {
-        let size = *random.pick(&[generate::SMALL, generate::MIDDLE, generate::TALL]);
+        let size = *random.pick(&[generate::SMALL, generate::MIDDLE, FAR, generate::TALL]);
         let survey = generate::survey(random, size);
         let length = HEADING + survey.list.len() + 3 * 2_000;
         let open = Call::Open { n: survey.n, list: survey.list.clone() };

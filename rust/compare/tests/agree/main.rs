@@ -28,7 +28,7 @@ fn main() -> ExitCode {
     let mut comparison = Comparison::default();
     type Suite = fn(&mut Comparison, &mut Random, u64);
     let suites: [(&str, Suite); 11] = [
-        ("document 01's cases", cases::document_cases),
+        ("the documents' cases", cases::document_cases),
         ("simplify", hostile::simplify),
         ("the two ways to find possible answers", lists::possible_answers),
         ("opening", hostile::opening),

@@ -1,0 +1,45 @@
+-- The gap that simplify answers with is a difference of step counts that are within the limit, and so it is within the limit too.
+use Prim.Native.Nat.{ℕ, _≤_}
+use mathlib.Core.Path.{_≡_, refl}
+use mathlib.Core.Bool.{true, cond, _&&_}
+use native.Mathlib.Omega.{arith}
+use lib.IntN.{natAbs}
+use Rattle.terms.specs.declared.limits.TermLimits.{TermLimits}
+use Rattle.terms.specs.declared.simplification.Guard.{Guard}
+use Rattle.terms.specs.declared.simplification.Guard.the-variants.{Never, Always, Question}
+use Rattle.terms.specs.declared.simplification.Simplified.{Simplified}
+use Rattle.terms.specs.declared.simplification.Simplified.the-variants.{Refused}
+use Rattle.terms.specs.declared.term.Equation.{Equation}
+use Rattle.terms.specs.Limits.{term-limits}
+use Rattle.terms.specs.Simplify.{simplify, gap, shown, simplify-words, answer}
+use Rattle.terms.specs.Words.{equation, term-of, allows}
+use Rattle.terms.proofs.Cases.{by-test}
+use Rattle.terms.proofs.SimplifyForm.{gap-within}
+use Rattle.terms.proofs.TermKept.{allows-says}
+
+-- the gap of an answer, which is 0 beside all but a question, without its sign
+abbrev gap-size : Simplified → ℕ
+gap-size a = natAbs (answer a .gap)
+
+shown-within : (n : ℕ) (g : Guard) → ((q : Equation) → g ≡ Question q → natAbs (gap q) ≤ n) → gap-size (shown g) ≤ n
+shown-within n Never h = omega arith
+shown-within n Always h = omega arith
+shown-within n (Question q) h = h q refl
+
+-- Within any limits of terms, the gap of an answer goes from the largest step count with a minus to the largest step count.
+pub answer-gap-within : (limits : TermLimits) (l r : ℕ) → natAbs (answer (simplify-words limits l r) .gap) ≤ limits .steps .0
+unfolding simplify-words
+answer-gap-within limits l r =
+    by-test (λ t. allows limits (term-of l) ≡ t → gap-size (cond (t && allows limits (term-of r)) (shown (simplify e)) Refused) ≤ limits .steps .0) (allows limits (term-of l))
+    (λ _ a. by-test (λ t. allows limits (term-of r) ≡ t → gap-size (cond t (shown (simplify e)) Refused) ≤ limits .steps .0) (allows limits (term-of r))
+    (λ _ b. shown-within (limits .steps .0) (simplify e)
+    (λ q s. gap-within (limits .steps .0) e q (allows-says limits (term-of l) a .steps-in) (allows-says limits (term-of r) b .steps-in) s))
+    (λ _ _. omega arith) refl)
+    (λ _ _. omega arith) refl
+  where
+    e : Equation
+    e = equation (term-of l) (term-of r)
+
+-- Document 02 (viii): "gives gaps from -1,023 to 1,023".
+pub public-gap-within : (l r : ℕ) → natAbs (answer (simplify-words term-limits l r) .gap) ≤ 1023
+public-gap-within l r = answer-gap-within term-limits l r
