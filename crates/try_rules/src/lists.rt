@@ -2,6 +2,7 @@
 ghost use Prim.Native.Nat.{_+_, _<_, _^_};
 use crate::chance::Thrown;
 use crate::chance::throw;
+use crate::chance::throw_from;
 use evaluator::field;
 use evaluator::is_question;
 use evaluator::word_at;
@@ -20,21 +21,33 @@ struct Pair {
     right: u32,
 }
 
+// The steps of up to three strides, as they stand in a term's word.
+fn strides(count: u32, stride: u32) -> u32
+    ensures { λ r. ⌜ r < 2 ^ 17 ⌝ }
+{
+    let size = stride % 1024 * 32;
+    match count {
+        0 => 0,
+        1 => size,
+        2 => 2 * size,
+        _ => 3 * size,
+    }
+}
+
 // The c-th of all pairs of three fields with gaps of up to 3 strides, in the order of questions: left field, right field, and the steps, 0 to 3 strides on the
 // right and then 1 to 3 on the left. Some are no questions, as their right field is not smaller, or they have steps to the left of zero.
 fn pair_at(c: u32, stride: u32) -> Pair {
     let left = c / 21 % 3 + 1;
     let right = c / 7 % 3;
     let step = c % 7;
-    let size = stride % 1024 * 32;
     if step < 4 {
         Pair {
             left: left,
-            right: right + step * size,
+            right: right + strides(step, stride),
         }
     } else {
         Pair {
-            left: left + (step - 3) * size,
+            left: left + strides(step - 3, stride),
             right: right,
         }
     }
@@ -42,19 +55,16 @@ fn pair_at(c: u32, stride: u32) -> Pair {
 
 // With one field the grid covers every gap, so three strides go up to 1,023 there.
 fn throw_stride(n: u32, seed: u64) -> Thrown {
-    let mut thrown = throw(seed, 341);
-    let way = throw(thrown.seed, 4);
-    let number = thrown.number % 341 + 1;
-    thrown.seed = way.seed;
-    thrown.number = match way.number {
-        0 => 1,
-        1 => 341,
-        _ => number,
-    };
     if n != 1 {
-        thrown.number = 1;
+        return throw_from(seed, 1, 1);
     }
-    thrown
+    let way = throw(seed, 4);
+    let number = way.number;
+    match number {
+        0 => throw_from(way.seed, 1, 1),
+        1 => throw_from(way.seed, 341, 1),
+        _ => throw_from(way.seed, 1, 341),
+    }
 }
 
 // Whether that is a question over n fields. Gaps of 3 are for up to two fields: of two fields n × (K + 1) is then at most nine.

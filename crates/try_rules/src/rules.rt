@@ -74,6 +74,13 @@ fn throw_listed(seed: u64, store: &[u32]) -> Line {
     throw_raised(k.seed, left_of(store, number), right_of(store, number))
 }
 
+// Nearly a question of the list: with one step more on one side.
+fn throw_missed(seed: u64, store: &[u32]) -> Line {
+    let line = throw_listed(seed, store);
+    let row = line.row;
+    equation(row.a % 65536 + 32, row.b, line.seed)
+}
+
 // An equation that may be on the list or not: terms of a field up to 4, which may be too large, and up to 2 steps.
 fn throw_equation(seed: u64) -> Line {
     let field = throw(seed, 5);
@@ -173,6 +180,7 @@ fn throw_row(seed: u64, store: &[u32], r: u32) -> Line {
         // S1024(1) = 1 is beyond the limit, and S1023(1) = 1 is not
         3 => equation(32769, 1, good.seed),
         4 => equation(32737, 1, good.seed),
+        5 => throw_missed(good.seed, store),
         _ => throw_good(good.seed, store, r),
     }
 }

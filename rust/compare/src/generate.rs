@@ -49,8 +49,7 @@ pub const MIDDLE: Size = Size { fields: (3, 6), gaps: Gaps::up_to(3), most_quest
 pub const FAR: Size =
     Size { fields: (2, 6), gaps: Gaps { stride: MOST_STEPS / 3, most_strides: 3 }, most_questions: 12 };
 /// Few fields with many questions and large gaps.
-pub const TALL: Size =
-    Size { fields: (1, 2), gaps: Gaps::up_to(MOST_STEPS), most_questions: MOST_QUESTIONS as u32 };
+pub const TALL: Size = Size { fields: (1, 2), gaps: Gaps::up_to(MOST_STEPS), most_questions: MOST_QUESTIONS as u32 };
 /// Many fields; few questions, so that the walk stays short.
 pub const WIDE: Size = Size { fields: (9, MOST_FIELDS), gaps: Gaps::up_to(MOST_STEPS), most_questions: 9 };
 
@@ -429,7 +428,9 @@ pub fn damage(random: &mut Random, store: &mut Vec<u32>, fault: Fault) {
         Fault::CutInList => store.truncate(random.place(list.end + 1)),
         Fault::CutInEntries => store.truncate(entries.end - random.between(1, 3) as usize),
         Fault::ListBit if q > 0 => store[list_word(random)] ^= 1 << random.below(16),
-        Fault::ListTerm if q > 0 => store[list_word(random)] = *random.pick(&[32 * (MOST_STEPS + 1), 31, n + 1, u32::MAX]),
+        Fault::ListTerm if q > 0 => {
+            store[list_word(random)] = *random.pick(&[32 * (MOST_STEPS + 1), 31, n + 1, u32::MAX])
+        }
         Fault::NotSimplified if q > 0 => {
             let at = list.start + 2 * random.place(q as usize);
             store.swap(at, at + 1);

@@ -212,7 +212,8 @@ fn small_rows() -> Vec<Row> {
     vec![
         row(GROUP, "simplify, 1,000 pairs of terms", || {
             let mut random = Random::new(3);
-            let term = |random: &mut Random| Term { field: random.below(17), steps: random.below(MOST_STEPS + 1) }.word();
+            let term =
+                |random: &mut Random| Term { field: random.below(17), steps: random.below(MOST_STEPS + 1) }.word();
             let pairs: Vec<(u32, u32)> = (0..1000).map(|_| (term(&mut random), term(&mut random))).collect();
             Box::new(move |operations| {
                 let start = Instant::now();

@@ -103,7 +103,8 @@ fn steps_added_up(comparison: &mut Comparison) {
 /// A store whose question has 1,023 steps is sound, and one with 1,024 is not.
 fn steps_in_a_store(comparison: &mut Comparison) {
     let store = [1, 1, 0, 1, 32736, 0, 0, 0];
-    let rules = [([2, 1, 32736, 0], 0, 2), ([2, 1, 32768, 0], 35, 0), ([2, 33, 32768, 0], 35, 0), ([2, 1, 8192, 0], 36, 0)];
+    let rules =
+        [([2, 1, 32736, 0], 0, 2), ([2, 1, 32768, 0], 35, 0), ([2, 33, 32768, 0], 35, 0), ([2, 1, 8192, 0], 36, 0)];
     for (row, number, result) in rules {
         let outcome = built(comparison, &store, &[row]);
         answer(comparison, &outcome, number, result);

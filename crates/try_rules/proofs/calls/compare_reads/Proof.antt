@@ -5,7 +5,7 @@ use Rattle.try_rules.proofs.calls.compare_reads.Statement.{statement}
 use Rattle.try_rules.proofs.calls.compare_reads.Tie as tie
 
 abbrev Inv-loop : tie.InvT-loop
-Inv-loop run₀ store call table handle sheets i₀ i-end run i = (i ≤ i-end) × (i-end ≤ 65)
+Inv-loop run₀ store call table handle sheets i₀ i-end run i = (i ≤ i-end) × (i-end ≤ 129)
 
 abbrev μ-loop : tie.MeasureT-loop
 μ-loop run₀ store call table handle sheets i₀ i-end run i = i-end - i

@@ -5,16 +5,19 @@ use Rattle.try_rules.proofs.lists.throw_list.Statement.{statement}
 use Rattle.try_rules.proofs.lists.throw_list.Tie as tie
 
 abbrev Inv-loop : tie.InvT-loop
-Inv-loop seed times list₀ c₀ list c = c ≤ 63
+Inv-loop seed times stride list₀ c₀ list c = c ≤ 63
 
 abbrev μ-loop : tie.MeasureT-loop
-μ-loop seed times list₀ c₀ list c = 63 - c
+μ-loop seed times stride list₀ c₀ list c = 63 - c
 
 throw-requires : tie.Need-throw-requires Inv-loop μ-loop
 throw-requires c κs = search needs
 
 throw-requires-2 : tie.Need-throw-requires-2 Inv-loop μ-loop
 throw-requires-2 c κs = search needs
+
+throw-stride-requires : tie.Need-throw-stride-requires Inv-loop μ-loop
+throw-stride-requires c κs = search needs
 
 loop-holds : tie.Need-loop-holds Inv-loop μ-loop
 loop-holds c = search needs
@@ -51,6 +54,7 @@ throw-list-spec =
     μ-loop
     throw-requires
     throw-requires-2
+    throw-stride-requires
     loop-holds
     pair-at-requires
     is-candidate-requires
