@@ -52,7 +52,9 @@ steps-built =
     record {
       start = replicate 8 7;
       calls = open-with 2 list ∷ build rule ∷ [];
-      expected = answered 0 0 (2 ∷ 1 ∷ 0 ∷ (list ++ replicate 3 0)) list ∷ answered 0 2 (2 ∷ 1 ∷ 1 ∷ 32738 ∷ 1 ∷ 1 ∷ 1 ∷ 0 ∷ []) rule ∷ [];
+      expected =
+          answered 0 0 (2 ∷ 1 ∷ 0 ∷ (list ++ replicate 3 0)) list
+          ∷ answered 0 2 (2 ∷ 1 ∷ 1 ∷ 32738 ∷ 1 ∷ 1 ∷ 1 ∷ 0 ∷ []) rule ∷ [];
     }
 
 -- A store whose question has 1,023 steps is sound, and with 1,024 steps it is not. 1 = S1024(0) is refused in a rule, and so is S(1) = S1024(0), though it

@@ -1,6 +1,6 @@
-// The sheets of one count up to 1,024, or of two or three counts below ten, numbered in the order that compares field 1 first: one count is the number, and
-// more are its digits. They are a complete test of any rule over a list for which no count of a sheet exceeds n × (K + 1), K being the largest gap without
-// its sign: of every list of one field, and of those of two or three fields for which it is at most nine.
+// The sheets of one count up to 1,024, or of two or three counts below ten, numbered in the order that compares field 1 first: one count is the
+// number, and more are its digits. They are a complete test of any rule over a list if they have every count up to n × (K + 1), K being the
+// largest gap without its sign: so they are for any list of one field, and for one of two or three fields if that number is at most nine.
 use crate::layout::fields;
 use crate::layout::left_of;
 use crate::layout::questions;

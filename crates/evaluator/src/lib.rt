@@ -38,7 +38,6 @@ pub use layout::fields;
 pub use layout::left_of;
 pub use layout::questions;
 pub use layout::right_of;
-pub use layout::steps;
 pub use layout::used;
 pub use lists::MOST_STEPS;
 pub use lists::bad_term;

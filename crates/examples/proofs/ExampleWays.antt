@@ -1,5 +1,5 @@
 -- What the example is on each way through the code: soundness, the handle, the length, then the best sheet found from no facts.
-use Prim.Native.Nat.{ℕ, _+_, _-_, _*_, _≤_}
+use Prim.Native.Nat.{ℕ, _+_, _-_, _≤_}
 use mathlib.Core.Path.{_≡_, sym, ap, ap₂, subst, _∙_}
 use mathlib.Core.Logic.{_≢_}
 use mathlib.Core.Bool.{Bool, true, false, cond}
@@ -20,7 +20,7 @@ use Rattle.facts.specs.declared.record.Facts.{Facts}
 use Rattle.facts.specs.Least.{IsLeast}
 use Rattle.facts.specs.Record.{state, last-field}
 use Rattle.facts.specs.State.{at, start}
-use Rattle.store.specs.Layout.{heading-length, field-count, question-count, used, question, leaves, is-handle}
+use Rattle.store.specs.Layout.{heading-length, field-count, used, question, leaves, is-handle}
 use Rattle.store.specs.Meaning.{meaning}
 use Rattle.store.specs.Outcome.{outcome}
 use Rattle.store.specs.Sound.{sound}

@@ -1,7 +1,7 @@
 -- The gap that simplify answers with is a difference of step counts that are within the limit, and so it is within the limit too.
 use Prim.Native.Nat.{ℕ, _≤_}
 use mathlib.Core.Path.{_≡_, refl}
-use mathlib.Core.Bool.{true, cond, _&&_}
+use mathlib.Core.Bool.{cond, _&&_}
 use native.Mathlib.Omega.{arith}
 use lib.IntN.{natAbs}
 use Rattle.terms.specs.declared.limits.TermLimits.{TermLimits}

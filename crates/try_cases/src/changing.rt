@@ -63,7 +63,7 @@ fn expect(store: &[u32], call: Row, given: &[u32], after: &mut [u32]) -> evaluat
     }
 }
 
-// Whether the evaluator knows the answer to a call: the answer to opening depends on no word of the store, and refusals but 51 not on its grid.
+// Whether the evaluator knows the answer to a call: that of opening depends on no word of the store, and a refusal, but for 51, not on its grid.
 fn is_known(store: &[u32], call: Row, expected: evaluator::Answer) -> bool {
     let refused = (expected.number != 0) & (expected.number != 51);
     (call.kind == 0) | refused | knows(store)

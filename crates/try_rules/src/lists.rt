@@ -34,8 +34,9 @@ fn strides(count: u32, stride: u32) -> u32
     }
 }
 
-// The c-th of all pairs of three fields with gaps of up to 3 strides, in the order of questions: left field, right field, and the steps, 0 to 3 strides on the
-// right and then 1 to 3 on the left. Some are no questions, as their right field is not smaller, or they have steps to the left of zero.
+// The c-th of all pairs of three fields with gaps of up to 3 strides, in the order of questions: left field, right field, and the steps, 0 to 3
+// strides on the right and then 1 to 3 on the left. Some are no questions, as their right field is not smaller, or they have steps to the left
+// of zero.
 fn pair_at(c: u32, stride: u32) -> Pair {
     let left = c / 21 % 3 + 1;
     let right = c / 7 % 3;
