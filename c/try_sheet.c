@@ -216,7 +216,7 @@ static void steps_simplified(void)
 }
 
 /* S1023(2) = 1, built turned round, and its negation. */
-static void steps_on_the_left(void)
+static void steps_built(void)
 {
     uint32_t store[11];
     uint16_t sheet[2];
@@ -304,7 +304,7 @@ int main(void)
     case_11();
     case_12();
     steps_simplified();
-    steps_on_the_left();
+    steps_built();
     steps_added_up();
     steps_in_a_store();
     null_stores();

@@ -37,8 +37,8 @@ case-4 = record {
 
 -- ---- document 02 (viii): 1,023 steps
 -- S1023(16) = 15, either way round: gap -1,023, which is `negsuc 1022`.
-abbrev pub steps-on-the-left : Case
-steps-on-the-left = record {
+abbrev pub steps-simplified : Case
+steps-simplified = record {
   start = [];
   calls = simplify 15 32752 ∷ simplify 32752 15 ∷ [];
   expected = simplified 0 2 32752 15 (negsuc 1022) ∷ simplified 0 2 32752 15 (negsuc 1022) ∷ [];
@@ -176,4 +176,4 @@ case-11 =
 abbrev pub cases : List Case
 cases =
     case-1 ∷ case-2 ∷ case-3 ∷ case-4 ∷ case-5-opened ∷ case-5-short ∷ cases-6-to-8 ∷ case-6-short ∷ case-9 ∷ case-11 ∷ case-11-built ∷ case-12
-    ∷ steps-on-the-left ∷ steps-built ∷ steps-in-a-store ∷ steps-beyond-in-a-store ∷ []
+    ∷ steps-simplified ∷ steps-built ∷ steps-in-a-store ∷ steps-beyond-in-a-store ∷ []

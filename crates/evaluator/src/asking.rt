@@ -53,7 +53,7 @@ pub fn is_example(store: &[u32], handle: u32, counts: &[u16]) -> bool {
     let number = expect_example(store, handle, counts.len());
     match number {
         0 => same_counts(counts, &least_sheet(store, handle)),
-        _ => same_counts(counts, &[7, 7, 7, 7]),
+        _ => same_counts(counts, &[7; 16]),
     }
 }
 

@@ -1,6 +1,8 @@
-// The sheets of one count up to 1,024, or of two or three counts below ten, numbered in the order that compares field 1 first: one count is the
-// number, and more are its digits. They are a complete test of any rule over a list if they have every count up to n × (K + 1), K being the
-// largest gap without its sign: so they are for any list of one field, and for one of two or three fields if that number is at most nine.
+// The sheets of no count, of one count up to 1,024, or of two or three counts below ten, numbered in the order that compares field 1 first: one
+// count is the number, and more are its digits. They are a complete test of any rule over a list if they have every count up to n × (K + 1), K
+// being the largest gap without its sign: so they are for any list of one field, and for one of two or three fields if that number is at most
+// nine.
+use crate::drawing::MOST_DRAWN;
 use crate::layout::fields;
 use crate::layout::left_of;
 use crate::layout::questions;
@@ -47,12 +49,14 @@ fn beyond(store: &[u32], k: u32, most: u32) -> bool {
     left_of(store, k) / 32 + right_of(store, k) / 32 > most
 }
 
-// Whether the grid is a complete test of the rules over a sound store's list.
+// Whether the evaluator can tell the answers about a sound store: the grid is a complete test of the rules over its list, which has no more
+// questions than a diagram can be drawn for.
 pub fn covers(store: &[u32]) -> bool {
     let n = fields(store);
     let most = most_steps(n);
-    let mut within = n <= 3;
-    for i in 0..questions(store) {
+    let count = questions(store);
+    let mut within = (n <= 3) & (count <= MOST_DRAWN);
+    for i in 0..count {
         within = within & !beyond(store, i + 1, most);
     }
     within

@@ -1,4 +1,4 @@
-// A plain evaluator of document 01, written apart from the operations: it calls none of them.
+// A plain evaluator of what the operations must answer by documents 01 and 02, written apart from them: it calls none of them.
 mod adding;
 mod answer;
 mod asking;
@@ -49,7 +49,6 @@ pub use opening::write_opened;
 pub use rules::table_fault;
 pub use sound::is_sound;
 pub use truth::holds;
-pub use truth::value;
 pub use words::all_are;
 pub use words::copy;
 pub use words::first_counts;

@@ -21,8 +21,7 @@ fn count(sheet: &[u16], term: u32) -> u32
     wide(count_at(sheet, ((term % 32 + 31) % 32) as usize))
 }
 
-// The value of a term at a sheet.
-pub fn value(sheet: &[u16], term: u32) -> u32 {
+fn value(sheet: &[u16], term: u32) -> u32 {
     count(sheet, term) + term / 32
 }
 

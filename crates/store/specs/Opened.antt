@@ -11,8 +11,9 @@ abbrev pub if-accepted : {A : Type 0} → Opened → A → (OpenFault → A) →
 if-accepted Accepted next stop = next
 if-accepted (Refused f) next stop = stop f
 
--- "L1 = 11, n above 16; L2 = 12, odd number of list words; L3 = 13, more than 20 questions; L4 = 14, field above n or steps above 255, since (viii) 1,023;
+-- "L1 = 11, n above 16; L2 = 12, odd number of list words; L3 = 13, more than 20 questions; L4 = 14, field above n or steps above 255;
 -- L5 = 15, not a simplified question; L6 = 16, not strictly above the one before."; "21, store shorter than 3 + 2q at opening"
+-- Document 02 (viii): "14 and 35 start at 1,024."
 abbrev pub open-fault-number : OpenFault → ℕ
 open-fault-number TooManyFields = 11
 open-fault-number OddList = 12

@@ -7,7 +7,8 @@ use Rattle.tables.specs.declared.answer.TableFault.{TableFault}
 use Rattle.tables.specs.declared.answer.TableFault.the-variants.{NoWords, NotRows, TooManyRows, BadRow, OutOfLimits, NotListed}
 
 -- "31, no words; 32, words not a multiple of four; 33, more than 256 rows; 34, unknown kind, nonzero unused column, or a reference not lower;
--- 35, field above n or steps above 255, since (viii) 1,023; 36, an equation neither always nor never nor on the list."
+-- 35, field above n or steps above 255; 36, an equation neither always nor never nor on the list."
+-- Document 02 (viii): "14 and 35 start at 1,024."
 abbrev pub table-fault-number : TableFault → ℕ
 table-fault-number NoWords = 31
 table-fault-number NotRows = 32

@@ -34,24 +34,20 @@ pub fn simplify(left: u32, right: u32) {
 
 pub fn verdict(store: &[u32], handle: u32) {
     let found = sheet_verdict(store, handle);
+    let expected = expect_verdict(store, handle);
     answer(found);
-    remark(
-        knows(store),
-        same_answer(found, expect_verdict(store, handle)),
-    );
+    remark(knows(store, expected.number), same_answer(found, expected));
 }
 
 fn narrow(count: u32) -> u16 {
     (count % 65536) as u16
 }
 
+// A sheet is read by the entries alone.
 fn read_sheet(store: &[u32], handle: u32, sheet: &[u16]) {
     let found = sheet_read(store, handle, sheet);
     answer(found);
-    remark(
-        knows(store),
-        same_answer(found, expect_read(store, handle, sheet)),
-    );
+    remark(true, same_answer(found, expect_read(store, handle, sheet)));
 }
 
 // A handle, and a sheet of at most two counts.
@@ -73,7 +69,7 @@ fn example_in(store: &[u32], handle: u32, sheet: &mut [u16]) {
     answer(found);
     counts(sheet);
     remark(
-        knows(store),
+        knows(store, expected.number),
         same_answer(found, expected) & is_example(store, handle, sheet),
     );
 }

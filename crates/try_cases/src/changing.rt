@@ -63,16 +63,11 @@ fn expect(store: &[u32], call: Row, given: &[u32], after: &mut [u32]) -> evaluat
     }
 }
 
-// Whether the evaluator knows the answer to a call: that of opening depends on no word of the store, and a refusal, but for 51, not on its grid.
-fn is_known(store: &[u32], call: Row, expected: evaluator::Answer) -> bool {
-    let refused = (expected.number != 0) & (expected.number != 51);
-    (call.kind == 0) | refused | knows(store)
-}
-
+// The answer to opening depends on no word of the store.
 fn make(store: &mut [u32], call: Row, given: &[u32]) {
     let mut after = [0u32; MOST_NUMBERS];
     let expected = expect(store, call, given, &mut after);
-    let known = is_known(store, call, expected);
+    let known = (call.kind == 0) | knows(store, expected.number);
     let found = perform(store, call, given);
     answer(found);
     words(store);

@@ -1,15 +1,14 @@
 // What the evaluator says to an answer, at the end of the answer's line.
 use crate::printing::text;
 use evaluator::covers;
-use evaluator::is_sound;
 
-// Whether the evaluator knows what a call on a store answers: words that are no sound store are refused, and on a sound one its grid must be a
-// complete test.
-pub fn knows(store: &[u32]) -> bool {
-    if is_sound(store) {
-        return covers(store);
+// Whether the evaluator knows the answer to a call on a store, if it expects a number. A refusal of the store, of a rule, of handles or of a length
+// is known; what goes by all sheets, 51 and 52 among it, is known where the grid covers the store's list.
+pub fn knows(store: &[u32], expected: u32) -> bool {
+    match expected {
+        0 | 51 | 52 => covers(store),
+        _ => true,
     }
-    true
 }
 
 pub fn same_answer(found: sheet::Answer, expected: evaluator::Answer) -> bool {

@@ -1,4 +1,4 @@
-// Runs document 01's cases, which stand on standard input, and prints what each call answers: the line of the call, after a colon the answer's
+// Runs the documents' cases, which stand on standard input, and prints what each call answers: the line of the call, after a colon the answer's
 // numbers, and whether the evaluator agrees.
 mod asking;
 mod calls;

@@ -14,6 +14,9 @@ use evaluator::expect_verdict;
 use evaluator::fields;
 use evaluator::first_counts;
 use evaluator::is_example;
+use evaluator::left_of;
+use evaluator::questions;
+use evaluator::right_of;
 use sheet::sheet_example;
 use sheet::sheet_read;
 use sheet::sheet_verdict;
@@ -64,23 +67,32 @@ fn throw_length(seed: u64, store: &[u32]) -> Thrown
     length
 }
 
+// The gap of one of the store's questions, at which its answer changes if the other side is zero.
+fn throw_gap(seed: u64, store: &[u32]) -> Thrown {
+    let mut thrown = throw(seed, questions(store));
+    let number = thrown.number % 20 + 1;
+    thrown.number = left_of(store, number) / 32 + right_of(store, number) / 32;
+    thrown
+}
+
 // A count in the grid or far beyond it, to the largest.
-fn throw_count(seed: u64) -> Thrown {
+fn throw_count(seed: u64, store: &[u32]) -> Thrown {
     let mut thrown = throw(seed, 8);
     let way = thrown.number;
     match way {
         0 => thrown.number = 65535,
         1 => thrown = throw_from(thrown.seed, 65520, 16),
         2 => thrown = throw(thrown.seed, 32768),
+        3 | 4 => thrown = throw_gap(thrown.seed, store),
         _ => thrown = throw(thrown.seed, 8),
     }
     thrown
 }
 
 fn ask_thrown_read(mut run: Run, store: &[u32], handle: u32) -> Run {
-    let a = throw_count(run.seed);
-    let b = throw_count(a.seed);
-    let c = throw_count(b.seed);
+    let a = throw_count(run.seed, store);
+    let b = throw_count(a.seed, store);
+    let c = throw_count(b.seed, store);
     let length = throw_length(c.seed, store);
     run.seed = length.seed;
     let sheet = [

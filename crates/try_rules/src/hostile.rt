@@ -6,6 +6,7 @@ use crate::asking::ask_verdict;
 use crate::calls::perform;
 use crate::chance::Thrown;
 use crate::chance::throw;
+use crate::chance::throw_from;
 use crate::filling::FULL_WORDS;
 use crate::run::Run;
 use crate::run::agree;
@@ -160,7 +161,7 @@ pub fn try_all_cut(mut run: Run) -> Run {
     run
 }
 
-// A word to put anywhere: mostly small.
+// A word to put anywhere: mostly small, or any term within the limits and around that of steps.
 fn throw_word(seed: u64) -> Thrown {
     let way = throw(seed, 10);
     let number = way.number;
@@ -170,6 +171,7 @@ fn throw_word(seed: u64) -> Thrown {
             seed: way.seed,
         },
         1 => throw(way.seed, 32768),
+        2 => throw_from(way.seed, 32672, 128),
         _ => throw(way.seed, 12),
     }
 }

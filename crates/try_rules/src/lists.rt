@@ -54,9 +54,9 @@ fn pair_at(c: u32, stride: u32) -> Pair {
     }
 }
 
-// With one field the grid covers every gap, so three strides go up to 1,023 there.
-fn throw_stride(n: u32, seed: u64) -> Thrown {
-    if n != 1 {
+// Three strides go up to 1,023, or are only three.
+fn throw_stride(far: bool, seed: u64) -> Thrown {
+    if !far {
         return throw_from(seed, 1, 1);
     }
     let way = throw(seed, 4);
@@ -95,13 +95,14 @@ fn throw_question(mut list: List, times: u32, pair: Pair) -> List {
     put_pair(list, length as usize, pair.left, pair.right)
 }
 
-// A list of up to eight questions.
-pub fn throw_list(seed: u64) -> List {
-    let n = throw(seed, 7);
-    let times = throw(n.seed, 4);
-    let stride = throw_stride(n.number / 2, times.seed);
+// A list of up to eight questions, whose gaps go far in any case or only where the grid covers them, with one field.
+pub fn throw_list(seed: u64, far: bool) -> List {
+    let fields = throw(seed, 7);
+    let n = fields.number / 2;
+    let times = throw(fields.seed, 4);
+    let stride = throw_stride(far | (n == 1), times.seed);
     let mut list = List {
-        n: n.number / 2,
+        n: n,
         words: [0; 44],
         length: 0,
         seed: stride.seed,
@@ -143,7 +144,7 @@ fn spoil_pair(mut list: List, round: bool) -> List {
     put_pair(list, pair + 2, left, right)
 }
 
-// Spoils a list in one of seven ways, or leaves it as it is.
+// Spoils a list in one of eight ways, or leaves it as it is.
 pub fn spoil(mut list: List) -> List {
     let thrown = throw(list.seed, 14);
     let way = thrown.number;

@@ -21,7 +21,8 @@ fn list_round(mut run: Run) -> Run {
     let mut store = [7u32; 64];
     let length = throw(run.seed, 60);
     let end = length.number as usize;
-    let list = spoil(throw_list(length.seed));
+    let far = throw(length.seed, 2);
+    let list = spoil(throw_list(far.seed, far.number == 0));
     run.seed = list.seed;
     open_list(run, list, &mut store[0..end])
 }
@@ -69,7 +70,7 @@ fn try_store(mut run: Run, list: List, store: &mut [u32]) -> Run {
 // One generated store with its list.
 fn store_round(mut run: Run) -> Run {
     let mut store = [7u32; 512];
-    let list = throw_list(run.seed);
+    let list = throw_list(run.seed, false);
     let length = throw_length(list);
     let end = length.number as usize;
     run.seed = length.seed;

@@ -45,8 +45,8 @@ fn equation(left: u32, right: u32, seed: u64) -> Line {
     }
 }
 
-// Steps to put on both sides of a question of a given gap: few, or any that the limit allows, or, now and then, just up to the limit or one
-// beyond it.
+// Steps to put on both sides of a question of a given gap: up to two, or any that the limit allows, or, now and then, just up to the limit or
+// one beyond it.
 fn throw_raise(seed: u64, gap: u32) -> Thrown {
     let spare = MOST_STEPS - gap % (MOST_STEPS + 1);
     let way = throw(seed, 24);

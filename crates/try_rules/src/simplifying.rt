@@ -10,7 +10,6 @@ use evaluator::MOST_STEPS;
 use evaluator::bad_term;
 use evaluator::holds;
 use evaluator::is_question;
-use evaluator::value;
 use sheet::sheet_simplify;
 use terms::SimplifyAnswer;
 
@@ -91,30 +90,27 @@ fn same_truth(left: u32, right: u32, a: SimplifyAnswer, sheet: &[u16; 16]) -> bo
     holds(sheet, left, right) == truth
 }
 
-fn raised_count(count: u16, by: u32) -> u16 {
-    ((count as u32 + by % 65536) % 65536) as u16
-}
-
-// A sheet with the count of a term's field raised, if it has that field.
-fn raise(mut sheet: Sheet, term: u32, by: u32) -> Sheet {
+// A sheet with a count for a term's field, if it has that field.
+fn with_count(mut sheet: Sheet, term: u32, count: u32) -> Sheet {
     let place = (term % 32) as usize;
     if place > 0 {
         if place <= 16 {
-            sheet.counts[place - 1] = raised_count(sheet.counts[place - 1], by);
+            sheet.counts[place - 1] = (count % 65536) as u16;
         }
     }
     sheet
 }
 
-// A sheet with the smaller side of an equation raised to the larger, so that the equation is true, however large its gap.
-fn meet(sheet: Sheet, left: u32, right: u32) -> Sheet {
-    let counts = sheet.counts;
-    let a = value(&counts, left);
-    let b = value(&counts, right);
-    if a < b {
-        return raise(sheet, left, b - a);
+// A sheet at which an equation is true, if there is one: all counts are 0 but that of the side with fewer steps, which is as much as these lack.
+fn meeting(seed: u64, left: u32, right: u32) -> Sheet {
+    let sheet = Sheet {
+        counts: [0; 16],
+        seed: seed,
+    };
+    if left / 32 < right / 32 {
+        return with_count(sheet, left, right / 32 - left / 32);
     }
-    raise(sheet, right, a - b)
+    with_count(sheet, right, left / 32 - right / 32)
 }
 
 fn compare_at(mut run: Run, left: u32, right: u32, a: SimplifyAnswer, sheet: Sheet) -> Run {
@@ -123,15 +119,14 @@ fn compare_at(mut run: Run, left: u32, right: u32, a: SimplifyAnswer, sheet: She
     agree(run, same_truth(left, right, a, &counts))
 }
 
-// Compares at a thrown sheet of small counts, and at one that makes the equation true, where there is one.
-fn compare_sheet(mut run: Run, left: u32, right: u32, a: SimplifyAnswer) -> Run {
-    run = compare_at(run, left, right, a, throw_sheet(run.seed));
+// Compares at one thrown sheet.
+fn compare_sheet(run: Run, left: u32, right: u32, a: SimplifyAnswer) -> Run {
     let sheet = throw_sheet(run.seed);
-    compare_at(run, left, right, a, meet(sheet, left, right))
+    compare_at(run, left, right, a, sheet)
 }
 
 fn compare_sheets(mut run: Run, left: u32, right: u32, a: SimplifyAnswer) -> Run {
-    for i in 0..6u32 {
+    for i in 0..12u32 {
         run = compare_sheet(run, left, right, a);
     }
     run
@@ -143,7 +138,9 @@ fn compare_equation(mut run: Run, left: u32, right: u32) -> Run {
     if bad_term(16, left) | bad_term(16, right) {
         expect_number(run, a.number, 35)
     } else {
+        let sheet = meeting(run.seed, left, right);
         run = expect_number(run, a.number, 0);
+        run = compare_at(run, left, right, a, sheet);
         compare_sheets(run, left, right, a)
     }
 }

@@ -34,7 +34,7 @@ impl Gaps {
         Gaps { stride: 1, most_strides: most_steps }
     }
 
-    /// A number of steps: small in half of all cases.
+    /// A number of steps: at most two strides in half of all cases.
     fn steps(self, random: &mut Random) -> u32 {
         let most = if random.one_in(2) { self.most_strides.min(2) } else { self.most_strides };
         self.stride * random.below(most + 1)
@@ -45,7 +45,7 @@ impl Gaps {
 pub const SMALL: Size = Size { fields: (0, 3), gaps: Gaps::up_to(2), most_questions: 8 };
 /// Enough fields for facts to meet in many ways.
 pub const MIDDLE: Size = Size { fields: (3, 6), gaps: Gaps::up_to(3), most_questions: 12 };
-/// The same with gaps up to the limit of steps, so far apart that one more or less makes a fact miss another.
+/// Gaps up to the limit of steps, of few sizes, so that the gaps of a path's facts add up to those of others.
 pub const FAR: Size =
     Size { fields: (2, 6), gaps: Gaps { stride: MOST_STEPS / 3, most_strides: 3 }, most_questions: 12 };
 /// Few fields with many questions and large gaps.
@@ -250,7 +250,7 @@ pub fn faulty_rule(random: &mut Random, survey: &Survey) -> Vec<u32> {
     let mut words = rule(random, survey);
     let row = 4 * random.place(words.len() / 4);
     let own = (row / 4) as u32;
-    match random.below(12) {
+    match random.below(13) {
         // No words, words that aren't whole rows, too many rows.
         0 => words.clear(),
         1 => words.truncate(words.len() - random.between(1, 3) as usize),
@@ -277,8 +277,15 @@ pub fn faulty_rule(random: &mut Random, survey: &Survey) -> Vec<u32> {
             let longer = words[row + column] + 32 * (MOST_STEPS + 1);
             words[row + column] = *random.pick(&[survey.n + 1, 17, 31, word, word, u32::MAX, longer]);
         }
+        // An equation of the list with steps more on both sides, one more than the limit allows.
+        9 => {
+            let terms = equation(random, survey).map(Term::of_word);
+            let more = MOST_STEPS + 1 - terms[0].steps.max(terms[1].steps);
+            let [a, b] = terms.map(|term| Term { steps: term.steps + more, ..term }.word());
+            words[row..row + 4].copy_from_slice(&[2, a, b, 0]);
+        }
         // An equation that is hardly on the list.
-        9 | 10 => {
+        10 | 11 => {
             let most = *random.pick(&[5, 5, MOST_STEPS]);
             let [a, b] = [0; 2].map(|_| Term { field: random.below(survey.n + 1), steps: random.below(most + 1) });
             words[row..row + 4].copy_from_slice(&[2, a.word(), b.word(), 0]);
@@ -312,9 +319,24 @@ pub fn sheet(random: &mut Random, survey: &Survey) -> Vec<u16> {
     };
     let steps = survey.list.iter().map(|word| word / 32).max().unwrap_or(0);
     let largest = *random.pick(&[1, 2, steps + 1, 17 * (steps + 1)]);
-    (0..length)
-        .map(|_| if random.one_in(40) { 65_535 - random.below(3) as u16 } else { random.below(largest + 1) as u16 })
-        .collect()
+    // Zero and the counts so far. Many a count stands above or below one of these by a gap of the list.
+    let mut counts = vec![0];
+    for _ in 0..length {
+        let count = match random.below(40) {
+            0 => 65_535 - random.below(3),
+            1..=20 if !survey.list.is_empty() => {
+                let (near, gap) = (*random.pick(&counts), random.pick(&survey.list) / 32);
+                if random.one_in(3) {
+                    near.saturating_sub(gap)
+                } else {
+                    (near + gap).min(65_535)
+                }
+            }
+            _ => random.below(largest + 1),
+        };
+        counts.push(count);
+    }
+    counts[1..].iter().map(|count| *count as u16).collect()
 }
 
 /// The number of words of a store: with room for no, few, many or more than all entries, and with words left over.

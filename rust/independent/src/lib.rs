@@ -1,4 +1,4 @@
-//! Document 01's ten operations, written a second time from the document alone.
+//! The ten operations, written a second time from documents 01 and 02 alone.
 //!
 //! The proved library keeps the facts of a path as classes of fields with offsets. Nothing here does:
 //!

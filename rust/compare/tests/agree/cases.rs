@@ -64,7 +64,7 @@ fn steps(comparison: &mut Comparison) {
     for (a, b) in [(15, 32752), (32752, 15)] {
         simplified(comparison, a, b, (0, 2, 32752, 15, -1023));
     }
-    steps_on_the_left(comparison);
+    steps_built(comparison);
     steps_added_up(comparison);
     steps_in_a_store(comparison);
 }
@@ -76,7 +76,7 @@ fn example(comparison: &mut Comparison, store: &[u32], handle: u32, expected: &[
 }
 
 /// S1023(2) = 1, and its negation.
-fn steps_on_the_left(comparison: &mut Comparison) {
+fn steps_built(comparison: &mut Comparison) {
     let store = opened(comparison, 2, &[32738, 1], 11);
     let equation = built(comparison, &store, &[[2, 1, 32738, 0]]);
     answer(comparison, &equation, 0, 2);

@@ -10,14 +10,24 @@ use independent::{largest_count, possible_by_bounds, possible_by_counting, HEADI
 /// That difference bounds and trying all counts find the same combinations of answers.
 pub fn possible_answers(comparison: &mut Comparison, random: &mut Random, cases: u64) {
     for _ in 0..cases {
-        let size = *random.pick(&[generate::SMALL, generate::SMALL, generate::MIDDLE, FAR, generate::TALL]);
-        let Survey { n, list } = generate::survey(random, size);
-        let questions = questions_of(&list);
-        if counting_is_affordable(n, &questions) && bounds_are_affordable(n, &questions) {
-            let equal = possible_by_bounds(n, &questions) == possible_by_counting(n, &questions);
-            comparison.test("possible answers of a list, found in two ways", equal, || format!("{n} {list:?}"));
+        let size = *random.pick(&[generate::SMALL, generate::SMALL, generate::MIDDLE, generate::TALL]);
+        let survey = generate::survey(random, size);
+        let questions = questions_of(&survey.list);
+        if counting_is_affordable(survey.n, &questions) && bounds_are_affordable(survey.n, &questions) {
+            found_in_two_ways(comparison, &survey);
         }
     }
+    // Some millions of sheets each.
+    for _ in 0..1 + cases / 500 {
+        let survey = generate::survey(random, Size { fields: (2, 2), most_questions: 8, ..FAR });
+        found_in_two_ways(comparison, &survey);
+    }
+}
+
+fn found_in_two_ways(comparison: &mut Comparison, survey: &Survey) {
+    let questions = questions_of(&survey.list);
+    let equal = possible_by_bounds(survey.n, &questions) == possible_by_counting(survey.n, &questions);
+    comparison.test("possible answers of a list, found in two ways", equal, || format!("{survey:?}"));
 }
 
 /// Opens a store and makes a list of calls, refused ones among them; then tests the handle law.

@@ -5,10 +5,10 @@ use Rattle.evaluator.proofs.grid.covers.Statement.{statement}
 use Rattle.evaluator.proofs.grid.covers.Tie as tie
 
 abbrev Inv-loop : tie.InvT-loop
-Inv-loop store n most within₀ i₀ i-end within i = i ≤ i-end
+Inv-loop store n most count within₀ i₀ within i = i ≤ count
 
 abbrev μ-loop : tie.MeasureT-loop
-μ-loop store n most within₀ i₀ i-end within i = i-end - i
+μ-loop store n most count within₀ i₀ within i = count - i
 
 fields-requires : tie.Need-fields-requires Inv-loop μ-loop
 fields-requires c κs = search needs

@@ -5,10 +5,10 @@ use Rattle.try_rules.proofs.lists.throw_list.Statement.{statement}
 use Rattle.try_rules.proofs.lists.throw_list.Tie as tie
 
 abbrev Inv-loop : tie.InvT-loop
-Inv-loop seed times stride list₀ c₀ list c = c ≤ 63
+Inv-loop seed far n times stride list₀ c₀ list c = c ≤ 63
 
 abbrev μ-loop : tie.MeasureT-loop
-μ-loop seed times stride list₀ c₀ list c = 63 - c
+μ-loop seed far n times stride list₀ c₀ list c = 63 - c
 
 throw-requires : tie.Need-throw-requires Inv-loop μ-loop
 throw-requires c κs = search needs
