@@ -320,7 +320,7 @@ pub fn sheet(random: &mut Random, survey: &Survey) -> Vec<u16> {
     let steps = survey.list.iter().map(|word| word / 32).max().unwrap_or(0);
     let largest = *random.pick(&[1, 2, steps + 1, 17 * (steps + 1)]);
     // Zero and the counts so far. Many a count stands above or below one of these by a gap of the list.
-    let mut counts = vec![0];
+    let mut counts = vec![0_u32];
     for _ in 0..length {
         let count = match random.below(40) {
             0 => 65_535 - random.below(3),

@@ -17,8 +17,8 @@ pub fn possible_answers(comparison: &mut Comparison, random: &mut Random, cases:
             found_in_two_ways(comparison, &survey);
         }
     }
-    // Some millions of sheets each.
-    for _ in 0..1 + cases / 500 {
+    // Up to four million sheets each.
+    for _ in 0..1 + cases / 100 {
         let survey = generate::survey(random, Size { fields: (2, 2), most_questions: 8, ..FAR });
         found_in_two_ways(comparison, &survey);
     }
