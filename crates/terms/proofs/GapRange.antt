@@ -30,15 +30,17 @@ shown-within n (Question q) h = h q refl
 pub answer-gap-within : (limits : TermLimits) (l r : ℕ) → natAbs (answer (simplify-words limits l r) .gap) ≤ limits .steps .0
 unfolding simplify-words
 answer-gap-within limits l r =
-    by-test (λ t. allows limits (term-of l) ≡ t → gap-size (cond (t && allows limits (term-of r)) (shown (simplify e)) Refused) ≤ limits .steps .0) (allows limits (term-of l))
-    (λ _ a. by-test (λ t. allows limits (term-of r) ≡ t → gap-size (cond t (shown (simplify e)) Refused) ≤ limits .steps .0) (allows limits (term-of r))
-    (λ _ b. shown-within (limits .steps .0) (simplify e)
-    (λ q s. gap-within (limits .steps .0) e q (allows-says limits (term-of l) a .steps-in) (allows-says limits (term-of r) b .steps-in) s))
-    (λ _ _. omega arith) refl)
-    (λ _ _. omega arith) refl
+    by-test (λ t. gap-size (cond (t && allows limits (term-of r)) (shown (simplify e)) Refused) ≤ n) (allows limits (term-of l))
+    (λ a. by-test (λ t. gap-size (cond t (shown (simplify e)) Refused) ≤ n) (allows limits (term-of r))
+    (λ b. shown-within n (simplify e) (λ q s. gap-within n e q (allows-says limits (term-of l) a .steps-in) (allows-says limits (term-of r) b .steps-in) s))
+    (λ _. omega arith))
+    (λ _. omega arith)
   where
     e : Equation
     e = equation (term-of l) (term-of r)
+
+    n : ℕ
+    n = limits .steps .0
 
 -- Document 02 (viii): "gives gaps from -1,023 to 1,023".
 pub public-gap-within : (l r : ℕ) → natAbs (answer (simplify-words term-limits l r) .gap) ≤ 1023
