@@ -235,17 +235,13 @@ static void steps_built(void)
 /* Sixteen fields, each 1,023 above the one before: 1 = S1023(0) to 16 = S1023(15). */
 static void steps_added_up(void)
 {
-    uint32_t list[32], rule[31 * 4], store[83];
+    uint32_t list[32], rule[33 * 4] = {1, 0, 0, 0}, store[83];
     uint16_t sheet[16], expected[16];
-    uint32_t rows = 0;
     for (uint32_t field = 1; field <= 16; field++) {
-        const uint32_t equation[] = {2, field, 32736 + field - 1, 0};
-        const uint32_t both[] = {4, rows - 1, rows, 0};
-        memcpy(&list[2 * (field - 1)], &equation[1], 2 * sizeof(uint32_t));
-        memcpy(&rule[4 * rows++], equation, sizeof(equation));
-        if (field > 1) {
-            memcpy(&rule[4 * rows++], both, sizeof(both));
-        }
+        /* a field's equation, and that it and all before it hold */
+        const uint32_t rows[] = {2, field, 32736 + field - 1, 0, 4, 2 * field - 2, 2 * field - 1, 0};
+        memcpy(&list[2 * (field - 1)], &rows[1], 2 * sizeof(uint32_t));
+        memcpy(&rule[4 * (2 * field - 1)], rows, sizeof(rows));
         expected[field - 1] = (uint16_t)(1023 * field);
     }
     answer("viii open 16 fields", sheet_open(16, list, LENGTH(list), store, LENGTH(store)), 0, 0);

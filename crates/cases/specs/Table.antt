@@ -1,4 +1,5 @@
--- Document 01, "Sheets and stores to try": the starred cases, and those of document 02's requests; each number as the papers have it or as their words give it.
+-- Document 01, "Sheets and stores to try": the starred cases, and those of document 02's requests; each number as the papers have it or as their
+-- words give it.
 use Prim.Native.Nat.{ℕ}
 use mathlib.Core.List.{List, [], _∷_, _++_}
 use lib.IntN.{pos, negsuc}
@@ -57,8 +58,8 @@ steps-built =
           ∷ answered 0 2 (2 ∷ 1 ∷ 1 ∷ 32738 ∷ 1 ∷ 1 ∷ 1 ∷ 0 ∷ []) rule ∷ [];
     }
 
--- A store whose question has 1,023 steps is sound, and with 1,024 steps it is not. 1 = S1024(0) is refused in a rule, and so is S(1) = S1024(0), though it
--- would simplify to the listed question; 1 = S256(0) is within the limit and not on the list.
+-- The words of a store whose question has 1,023 steps: it is sound. 1 = S1024(0) is refused in a rule, and so is S(1) = S1024(0), though it would simplify
+-- to the listed question; 1 = S256(0) is within the limit and not on the list.
 abbrev pub steps-in-a-store : Case
 steps-in-a-store =
     let s : List ℕ = 1 ∷ 1 ∷ 0 ∷ 1 ∷ 32736 ∷ 0 ∷ 0 ∷ 0 ∷ [] in
@@ -74,6 +75,7 @@ steps-in-a-store =
           ∷ answered 0 2 (1 ∷ 1 ∷ 1 ∷ 1 ∷ 32736 ∷ 1 ∷ 1 ∷ 0 ∷ []) listed ∷ [];
     }
 
+-- With 1,024 steps it is not sound.
 abbrev pub steps-beyond-in-a-store : Case
 steps-beyond-in-a-store =
     let s : List ℕ = 1 ∷ 1 ∷ 0 ∷ 1 ∷ 32768 ∷ [] in

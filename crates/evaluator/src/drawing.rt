@@ -18,10 +18,7 @@ use crate::words::put;
 // No handle: no sheet answers in such a way.
 const NOTHING: u32 = 4294967295;
 
-// The most questions of a list that a diagram is drawn for.
-pub const MOST_DRAWN: u32 = 8;
-
-// The leaf of each way to answer the questions of a list, question 1 being the highest digit.
+// The leaf of each way to answer the questions of a list, at most eight, question 1 being the highest digit.
 type Ways = [u32; 256];
 
 // What a sheet answers to the questions, as one number.

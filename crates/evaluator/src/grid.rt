@@ -2,7 +2,6 @@
 // count is the number, and more are its digits. They are a complete test of any rule over a list if they have every count up to n × (K + 1), K
 // being the largest gap without its sign: so they are for any list of one field, and for one of two or three fields if that number is at most
 // nine.
-use crate::drawing::MOST_DRAWN;
 use crate::layout::fields;
 use crate::layout::left_of;
 use crate::layout::questions;
@@ -49,8 +48,11 @@ fn beyond(store: &[u32], k: u32, most: u32) -> bool {
     left_of(store, k) / 32 + right_of(store, k) / 32 > most
 }
 
-// Whether the evaluator can tell the answers about a sound store: the grid is a complete test of the rules over its list, which has no more
-// questions than a diagram can be drawn for.
+// The most questions of a list that diagrams are drawn for.
+const MOST_DRAWN: u32 = 8;
+
+// Whether the evaluator can tell the answers about a sound store: the grid is a complete test of the rules over its list, and diagrams are drawn
+// for so many questions.
 pub fn covers(store: &[u32]) -> bool {
     let n = fields(store);
     let most = most_steps(n);

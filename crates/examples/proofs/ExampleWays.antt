@@ -80,7 +80,13 @@ module _ {s : List ℕ} {handle : ℕ} {out : List ℕ} (k : CanGive s handle ou
           where
             bounded : (v : Valuation) → IsLeast (field-count s) (λ w. meaning s handle w ≡ true) v → getD (r .sheet .counts) i 0 ≡ at v i → getD (r .sheet .counts) i 0 ≤ most-count
             bounded v is same =
-                omega (arith, same, least-within-limits snd handle (k .handle-in) v is i l, k .fit .counts-fit, mul-le-mul-right (k .limits .terms .steps .0 + 1) (k .fit .fields-fit))
+                omega (
+                  arith,
+                  same,
+                  least-within-limits snd handle (k .handle-in) v is i l,
+                  k .fit .counts-fit,
+                  mul-le-mul-right (k .limits .terms .steps .0 + 1) (k .fit .fields-fit),
+                )
 
         pub can-write : CanWriteSheet (r .sheet) out
         can-write = record { few = omega (arith, few-fields, k .length-is); small = λ i h j. count-small i h (omega (arith, k .length-is)) }

@@ -17,11 +17,11 @@ use Rattle.terms.proofs.Cases.{by-test}
 use Rattle.terms.proofs.SimplifyForm.{gap-within}
 use Rattle.terms.proofs.TermKept.{allows-says}
 
--- the gap of an answer, which is 0 beside all but a question, without its sign
-abbrev gap-size : Simplified → ℕ
-gap-size a = natAbs (answer a .gap)
+-- the gap that an answer shows, 0 beside all but a question, without its sign
+abbrev shown-gap : Simplified → ℕ
+shown-gap a = natAbs (answer a .gap)
 
-shown-within : (n : ℕ) (g : Guard) → ((q : Equation) → g ≡ Question q → natAbs (gap q) ≤ n) → gap-size (shown g) ≤ n
+shown-within : (n : ℕ) (g : Guard) → ((q : Equation) → g ≡ Question q → natAbs (gap q) ≤ n) → shown-gap (shown g) ≤ n
 shown-within n Never h = omega arith
 shown-within n Always h = omega arith
 shown-within n (Question q) h = h q refl
@@ -30,8 +30,8 @@ shown-within n (Question q) h = h q refl
 pub answer-gap-within : (limits : TermLimits) (l r : ℕ) → natAbs (answer (simplify-words limits l r) .gap) ≤ limits .steps .0
 unfolding simplify-words
 answer-gap-within limits l r =
-    by-test (λ t. gap-size (cond (t && allows limits (term-of r)) (shown (simplify e)) Refused) ≤ n) (allows limits (term-of l))
-    (λ a. by-test (λ t. gap-size (cond t (shown (simplify e)) Refused) ≤ n) (allows limits (term-of r))
+    by-test (λ t. shown-gap (cond (t && allows limits (term-of r)) (shown (simplify e)) Refused) ≤ n) (allows limits (term-of l))
+    (λ a. by-test (λ t. shown-gap (cond t (shown (simplify e)) Refused) ≤ n) (allows limits (term-of r))
     (λ b. shown-within n (simplify e) (λ q s. gap-within n e q (allows-says limits (term-of l) a .steps-in) (allows-says limits (term-of r) b .steps-in) s))
     (λ _. omega arith))
     (λ _. omega arith)

@@ -2,8 +2,8 @@
 use crate::printing::text;
 use evaluator::covers;
 
-// Whether the evaluator knows the answer to a call on a store, if it expects a number. A refusal of the store, of a rule, of handles or of a length
-// is known; what goes by all sheets, 51 and 52 among it, is known where the grid covers the store's list.
+// Whether the evaluator knows the answer to a call on a store, by the number that it expects: it knows the refusals of a store, a rule, a handle
+// or a length. Acceptance, 51 and 52 go by all sheets, so these it knows where its grid covers the store's list.
 pub fn knows(store: &[u32], expected: u32) -> bool {
     match expected {
         0 | 51 | 52 => covers(store),

@@ -161,7 +161,7 @@ pub fn try_all_cut(mut run: Run) -> Run {
     run
 }
 
-// A word to put anywhere: mostly small, or any term within the limits and around that of steps.
+// A word to put anywhere: mostly small; now and then a term of any steps up to the limit, or of steps around it.
 fn throw_word(seed: u64) -> Thrown {
     let way = throw(seed, 10);
     let number = way.number;

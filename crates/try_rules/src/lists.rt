@@ -54,7 +54,7 @@ fn pair_at(c: u32, stride: u32) -> Pair {
     }
 }
 
-// Three strides go up to 1,023, or are only three.
+// The steps of a stride: one, or up to 341, so that three strides go up to 1,023.
 fn throw_stride(far: bool, seed: u64) -> Thrown {
     if !far {
         return throw_from(seed, 1, 1);
@@ -95,7 +95,8 @@ fn throw_question(mut list: List, times: u32, pair: Pair) -> List {
     put_pair(list, length as usize, pair.left, pair.right)
 }
 
-// A list of up to eight questions, whose gaps go far in any case or only where the grid covers them, with one field.
+// A list of up to eight questions. Its gaps are small, or go far: so they may in any list of one field, which the grid covers, and in others if
+// that is asked for.
 pub fn throw_list(seed: u64, far: bool) -> List {
     let fields = throw(seed, 7);
     let n = fields.number / 2;

@@ -42,7 +42,7 @@ fn throw_low_term(seed: u64) -> Thrown {
     }
 }
 
-// A number of steps: a few, any up to the limit, or some near 8 bits or near the limit.
+// A number of steps: a few, any up to the limit, or some near 255 or near the limit.
 fn throw_steps(seed: u64) -> Thrown {
     let way = throw(seed, 8);
     let number = way.number;

@@ -86,7 +86,7 @@ pub fn survey(random: &mut Random, size: Size) -> Survey {
     Survey { n, list }
 }
 
-/// A word of a small field with steps around 8 bits or around their limit.
+/// A word of a small field with steps around 255 or around their limit.
 fn edge_word(random: &mut Random) -> u32 {
     let steps = *random.pick(&[254, 255, 256, 257, MOST_STEPS - 1, MOST_STEPS, MOST_STEPS + 1, MOST_STEPS + 2]);
     Term { field: random.below(3), steps }.word()

@@ -91,9 +91,11 @@ fn steps_built(comparison: &mut Comparison) {
 fn steps_added_up(comparison: &mut Comparison) {
     let list: Vec<u32> = (1..=16).flat_map(|field| [field, 32736 + field - 1]).collect();
     let store = opened(comparison, 16, &list, 83);
-    let mut rows: Vec<[u32; 4]> = list.chunks(2).map(|pair| [2, pair[0], pair[1], 0]).collect();
-    rows.push([4, 0, 1, 0]);
-    rows.extend((2..16).map(|row| [4, row, 14 + row, 0]));
+    let mut rows = vec![[1, 0, 0, 0]];
+    for pair in list.chunks(2) {
+        let all_before = rows.len() as u32 - 1;
+        rows.extend([[2, pair[0], pair[1], 0], [4, all_before, all_before + 1, 0]]);
+    }
     let all = built(comparison, &store, &rows);
     answer(comparison, &all, 0, 17);
     let counts: Vec<u16> = (1..=16).map(|field| 1023 * field).collect();
