@@ -1,0 +1,11 @@
+pub mod Limits
+pub mod Table
+pub mod Meaning
+pub mod Tree
+pub mod Paths
+pub mod Rules
+pub mod Checked
+pub mod Reachable
+pub mod Named
+pub mod Check
+pub mod Accepted

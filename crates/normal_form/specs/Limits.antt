@@ -1,0 +1,17 @@
+-- The limits of a table (document 02, vii), each in this place alone. They are the aerial desk's, and do not move with those of terms and stores.
+use Prim.Native.Nat.{ℕ}
+use Rattle.terms.specs.Limits.{most-fields}
+use Rattle.terms.specs.Words.{field, steps}
+use Rattle.normal_form.specs.declared.limits.TableLimits.{TableLimits}
+
+-- "steps above 4,095"
+abbrev pub most-steps : ℕ
+most-steps = 4095
+
+-- "at most 4,096"
+abbrev pub most-entries : ℕ
+most-entries = 4096
+
+-- "field above 16": the fields of a sheet
+abbrev pub table-limits : TableLimits
+table-limits = record { terms = record { field = field most-fields; steps = steps most-steps }; entries = most-entries }
