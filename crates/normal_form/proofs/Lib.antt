@@ -1,0 +1,11 @@
+pub mod PathSheet
+pub mod NormalTree
+pub mod ByHandles
+pub mod Marks
+pub mod NamedFlags
+pub mod Kept
+pub mod OneHandle
+pub mod NormalTable
+pub mod RulesExactly
+pub mod EveryPath
+pub mod CheckVerdict

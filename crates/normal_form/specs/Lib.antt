@@ -9,3 +9,5 @@ pub mod Reachable
 pub mod Named
 pub mod Check
 pub mod Accepted
+pub mod Followed
+pub mod VerdictExact

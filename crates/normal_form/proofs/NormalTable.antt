@@ -1,0 +1,204 @@
+-- The tests of 86 and Definition 28's rules. If the tests of rules 3 to 7 pass at every entry, a part's first question is after its entry's, and so, the order being transitive, are all
+-- its questions: every diagram of the table is sorted. If besides no left field is flagged in its entry's yes part, every diagram is in normal form. If a test fails at an
+-- entry, the rule that it tests applies there; for rule 8', because the question found is after the entry's, as all are by then.
+use Prim.Native.Nat.{ℕ, zero, suc, _+_, _-_, _≤_, _<_}
+use mathlib.Core.Path.{_≡_, refl, sym, ap, _∙_}
+use mathlib.Core.Bool.{Bool, true, false, true≢false, false≢true, cond, not, _&&_, and-false}
+use mathlib.Core.Logic.{_≢_, _⊎_, inl, inr}
+use mathlib.Core.List.{List}
+use native.Mathlib.Omega.{arith}
+use native.Mathlib.Decide.{ℕ-discrete}
+use borrow.Author.Tests.{eq-eqb, eqb-true, lt-ltb, le-ltb, not-true, not-false}
+use lib.Dec.{eqb, ltb}
+use lib.ListN.{getD}
+use Rattle.store.specs.Layout.{leaves}
+use Rattle.store.specs.Sound.{all-below}
+use Rattle.store.proofs.ByHandles.{by-handle}
+use Rattle.store.proofs.Tests.{passes, first-passes, second-passes, all-below-says}
+use Rattle.terms.specs.declared.term.Equation.{Equation}
+use Rattle.terms.specs.Order.{fields-first, before}
+use Rattle.terms.specs.Words.{field}
+use Rattle.terms.proofs.Cases.{by-test, by-lt}
+use Rattle.terms.proofs.Numbers.{equations-equal}
+use Rattle.terms.proofs.QuestionOrder.{fields-first-strict-total}
+use Rattle.terms.proofs.SimplifyForm.{smaller-right}
+use Rattle.normal_form.specs.Check.{asks-after, parts-ordered, left-apart, fields-apart, no-rule-applies}
+use Rattle.terms.specs.Limits.{most-fields}
+use Rattle.normal_form.specs.Limits.{table-limits}
+use Rattle.normal_form.specs.Named.{named}
+use Rattle.normal_form.specs.Reachable.{Reaches, itself, by-yes, by-no}
+use Rattle.normal_form.specs.Rules.{Precedes, Names, RootAsks, SomeAsks, RuleAt, rule-3, rule-4, rule-5, rule-6, rule-7, rule-8, Applies}
+use Rattle.normal_form.specs.Table.{entry-count, entry, asks}
+use Rattle.normal_form.specs.Tree.{Tree, leaf, ite, tree}
+use Rattle.normal_form.proofs.ByHandles.{by-handles, tree-leaf, tree-entry}
+use Rattle.normal_form.proofs.Kept.{Kept}
+use Rattle.normal_form.proofs.NamedFlags.{named-exact}
+use Rattle.normal_form.proofs.NormalTree.{Each, Sorted, Apart, Unnamed, RootAfter, after-root, none-each, some-and, no-rule}
+use Rattle.normal_form.proofs.OneHandle.{one-handle}
+
+-- ---- tests that fail
+-- a test of every number below k fails at one of them
+some-fails : (p : ℕ → Bool) (k : ℕ) → all-below k p ≡ false → (i : ℕ) × (i < k) × (p i ≡ false)
+unfolding all-below
+some-fails p zero e = absurd (true≢false e)
+some-fails p (suc k) e = by-test (λ b. p k ≡ b → (i : ℕ) × (i < suc k) × (p i ≡ false)) (p k)
+    (λ _ b. let r = some-fails p k (simp (b, and-true) at e) in (r .0, omega (arith, r .1), r .2))
+    (λ _ b. (k, omega arith, b)) refl
+  where
+    and-true : (a : Bool) → (a && true) ≡ a
+    and-true true = refl
+    and-true false = refl
+
+-- of two tests joined, the first fails, or passes and the second fails
+first-or-second : (a b : Bool) → (a && b) ≡ false → (a ≡ false) ⊎ ((a ≡ true) × (b ≡ false))
+first-or-second true b e = inr (refl, e)
+first-or-second false b e = inl refl
+
+-- ---- an equation that is not after g is g, or before g
+not-after : (g h : Equation) → before fields-first g h ≡ false → (h ≡ g) ⊎ Precedes h g
+not-after g h e = by-test (λ b. before fields-first h g ≡ b → (h ≡ g) ⊎ Precedes h g) (before fields-first h g) (λ _ b. inr b)
+    (λ _ b.
+    let alike : (h ≢ g) → ⊥ = λ n. elim (fields-first-strict-total .total h g n) [ inl x ↦ true≢false (sym x ∙ b) | inr x ↦ true≢false (sym x ∙ e) ] in
+    let same : (p : Equation → ℕ) → p h ≡ p g = λ p. elim (ℕ-discrete (p h) (p g)) [ yes x ↦ x | no n ↦ absurd (alike (λ x. n (ap p x))) ] in
+    inl (equations-equal h g (same (λ q. q .left .field .0)) (same (λ q. q .left .steps .0)) (same (λ q. q .right .field .0)) (same (λ q. q .right .steps .0)))) refl
+
+module _ {t : List ℕ} {root : ℕ} (k : Kept t root) where
+  abbrev m : ℕ
+  m = entry-count t
+
+  yes-in : (i : ℕ) → i < m → entry t i .yes < m + leaves
+  yes-in i h = omega (arith, k .falling .yes-below i h)
+
+  no-in : (i : ℕ) → i < m → entry t i .no < m + leaves
+  no-in i h = omega (arith, k .falling .no-below i h)
+
+  -- ---- rules 4 to 7
+  -- the question of a handle is after g, or is g or before it
+  after-says : (g : Equation) (h : ℕ) → h < m + leaves → asks-after t g h ≡ true → RootAfter g (tree t h)
+  after-says g = by-handle m (λ h. asks-after t g h ≡ true → RootAfter g (tree t h)) (λ h l _. rw (tree-leaf t h l) tt)
+      (λ j l e.
+      let same : j + leaves - leaves ≡ j = omega arith in
+      rw (tree-entry (k .falling) j l) (simp (le-ltb (j + leaves) leaves (omega arith), same) at e))
+
+  after-fails : (g : Equation) (h : ℕ) → h < m + leaves → asks-after t g h ≡ false → RootAsks (λ q. q ≡ g) (tree t h) ⊎ RootAsks (λ q. Precedes q g) (tree t h)
+  after-fails g = by-handle m (λ h. asks-after t g h ≡ false → RootAsks (λ q. q ≡ g) (tree t h) ⊎ RootAsks (λ q. Precedes q g) (tree t h))
+      (λ h l e. absurd (true≢false (simp (lt-ltb h leaves l) at e)))
+      (λ j l e.
+      let same : j + leaves - leaves ≡ j = omega arith in
+      rw (tree-entry (k .falling) j l) (not-after g (asks (entry t j)) (simp (le-ltb (j + leaves) leaves (omega arith), same) at e)))
+
+  module _ (i : ℕ) (h : i < m) where
+    abbrev g : Equation
+    g = asks (entry t i)
+
+    abbrev y : Tree
+    y = tree t (entry t i .yes)
+
+    abbrev n : Tree
+    n = tree t (entry t i .no)
+
+    -- rules 3 to 7 apply nowhere at the entry
+    sorted-entry : parts-ordered t i ≡ true → Sorted y → Sorted n → Sorted (tree t (i + leaves))
+    unfolding parts-ordered
+    sorted-entry e sy sn =
+        let differ : not (eqb (entry t i .yes) (entry t i .no)) ≡ true = passes (not (eqb (entry t i .yes) (entry t i .no))) (λ f. simp f at e) in
+        let ey : asks-after t g (entry t i .yes) ≡ true = passes (asks-after t g (entry t i .yes)) (λ f. simp (f, and-false) at e) in
+        let en : asks-after t g (entry t i .no) ≡ true = passes (asks-after t g (entry t i .no)) (λ f. simp (f, and-false) at e) in
+        let handles : entry t i .yes ≢ entry t i .no = λ d. false≢true (sym (not-true (eqb (entry t i .yes) (entry t i .no)) differ) ∙ eq-eqb (entry t i .yes) (entry t i .no) d) in
+        rw (tree-entry (k .falling) i h) (
+          k .asked i h,
+          after-root g y sy (after-says g (entry t i .yes) (yes-in i h) ey),
+          after-root g n sn (after-says g (entry t i .no) (no-in i h) en),
+          λ d. handles (one-handle k (entry t i .yes) (entry t i .no) (yes-in i h) (no-in i h) d),
+          sy,
+          sn,
+        )
+
+    -- one of rules 3 to 7 applies at the entry
+    parts-fail : parts-ordered t i ≡ false → RuleAt g y n
+    unfolding parts-ordered
+    parts-fail e = elim (first-or-second (not (eqb (entry t i .yes) (entry t i .no)) && asks-after t g (entry t i .yes)) (asks-after t g (entry t i .no)) e) [
+      | inr b ↦ elim (after-fails g (entry t i .no) (no-in i h) (b .1)) [ inl r ↦ rule-5 r | inr r ↦ rule-7 r ]
+      | inl b ↦ elim (first-or-second (not (eqb (entry t i .yes) (entry t i .no))) (asks-after t g (entry t i .yes)) b) [
+        | inl c ↦ rule-3 (ap (tree t) (eqb-true (entry t i .yes) (entry t i .no) (not-false (eqb (entry t i .yes) (entry t i .no)) c)))
+        | inr c ↦ elim (after-fails g (entry t i .yes) (yes-in i h) (c .1)) [ inl r ↦ rule-4 r | inr r ↦ rule-6 r ]
+      ]
+    ]
+
+    -- ---- rule 8'
+    left-some : g .left .field .0 ≢ 0
+    left-some = omega (arith, smaller-right g (k .asked i h .form))
+
+    -- the left field is named in the yes part exactly if its flag is set
+    unnamed-entry : left-apart table-limits t (g .left .field .0) i ≡ true → Each (Unnamed g) y
+    unfolding left-apart
+    unnamed-entry e =
+        let u = g .left .field .0 in
+        let flag = getD (named table-limits u t m) (entry t i .yes) false in
+        none-each (Names (field u)) y (λ s. false≢true (sym (not-true (eqb u u && flag) e)
+        ∙ simp (eq-eqb u u refl, named-exact table-limits (k .falling) u (k .few) (entry t i .yes) (yes-in i h) .1 s)))
+
+    -- it is named by a question that is after the entry's
+    apart-fails : (f : ℕ) → left-apart table-limits t f i ≡ false → Each (Precedes g) y → RuleAt g y n
+    unfolding left-apart
+    apart-fails f e after =
+        let flag = getD (named table-limits f t m) (entry t i .yes) false in
+        let both : (eqb (g .left .field .0) f && flag) ≡ true = not-false (eqb (g .left .field .0) f && flag) e in
+        let same : g .left .field .0 ≡ f = eqb-true (g .left .field .0) f (first-passes (eqb (g .left .field .0) f) flag both) in
+        let some : SomeAsks (Names (field f)) y = named-exact table-limits (k .falling) f (k .few) (entry t i .yes) (yes-in i h) .0 (second-passes (eqb (g .left .field .0) f) flag both) in
+        rule-8 (some-and (Precedes g) (Names (g .left .field)) y after (rw (← same) at some))
+
+  -- ---- the whole table
+  table-sorted : all-below m (parts-ordered t) ≡ true → (h : ℕ) → h < m + leaves → Sorted (tree t h)
+  table-sorted e = by-handles (k .falling) (λ h. Sorted (tree t h)) (λ h l. rw (tree-leaf t h l) tt)
+      (λ i h. sorted-entry i h (all-below-says (parts-ordered t) m e i h))
+
+  table-apart : fields-apart table-limits t ≡ true → (h : ℕ) → h < m + leaves → Apart (tree t h)
+  unfolding fields-apart
+  table-apart e = by-handles (k .falling) (λ h. Apart (tree t h)) (λ h l. rw (tree-leaf t h l) tt)
+      (λ i h y n.
+      let u = asks (entry t i) .left .field .0 in
+      let back : suc (u - 1) ≡ u = omega (arith, left-some i h) in
+      let each : all-below m (left-apart table-limits t (suc (u - 1))) ≡ true =
+      all-below-says (λ f. all-below m (left-apart table-limits t (suc f))) most-fields e (u - 1) (omega (arith, left-some i h, k .left-in i h)) in
+      rw (tree-entry (k .falling) i h) (unnamed-entry i h (rw back at (all-below-says (left-apart table-limits t (suc (u - 1))) m each i h)), y, n))
+
+  -- a rule that applies at an entry applies in the root's diagram, since the entry is reached
+  reached-in : (h : ℕ) → Reaches t root h → h < m + leaves
+  reached-in h itself = k .root-in
+  reached-in h (by-yes i r) = yes-in i (omega (arith, reached-in (i + leaves) r))
+  reached-in h (by-no i r) = no-in i (omega (arith, reached-in (i + leaves) r))
+
+  applies-above : (h : ℕ) → Reaches t root h → Applies (tree t h) → Applies (tree t root)
+  applies-above h itself a = a
+  applies-above h (by-yes i r) a = applies-above (i + leaves) r (rw (tree-entry (k .falling) i (omega (arith, reached-in (i + leaves) r))) (inr (inl a)))
+  applies-above h (by-no i r) a = applies-above (i + leaves) r (rw (tree-entry (k .falling) i (omega (arith, reached-in (i + leaves) r))) (inr (inr a)))
+
+  rule-applies : (i : ℕ) (h : i < m) → RuleAt (asks (entry t i)) (tree t (entry t i .yes)) (tree t (entry t i .no)) → Applies (tree t root)
+  rule-applies i h r = applies-above (i + leaves) (k .reached i h) (rw (tree-entry (k .falling) i h) (inl r))
+
+  -- the question of a yes part are after the entry's
+  yes-after : all-below m (parts-ordered t) ≡ true → (i : ℕ) → i < m → Each (Precedes (asks (entry t i))) (tree t (entry t i .yes))
+  yes-after e i h = let s : Sorted (ite (asks (entry t i)) (tree t (entry t i .yes)) (tree t (entry t i .no))) = rw (tree-entry (k .falling) i h) at (table-sorted e (i + leaves) (omega arith)) in s .1
+
+  -- If a test of 86 fails, a rule applies; if they all pass, none does.
+  pub fails-applies : no-rule-applies table-limits t ≡ false → Applies (tree t root)
+  unfolding no-rule-applies fields-apart
+  fails-applies e = elim (first-or-second (all-below m (parts-ordered t)) (fields-apart table-limits t) e) [
+    | inl b ↦ let r = some-fails (parts-ordered t) m b in rule-applies (r .0) (r .1) (parts-fail (r .0) (r .1) (r .2))
+    | inr b ↦
+        let f = some-fails (λ f. all-below m (left-apart table-limits t (suc f))) most-fields (b .1) in
+        let r = some-fails (left-apart table-limits t (suc (f .0))) m (f .2) in
+        rule-applies (r .0) (r .1) (apart-fails (r .0) (r .1) (suc (f .0)) (r .2) (yes-after (b .0) (r .0) (r .1)))
+  ]
+
+  pub passes-sorted : no-rule-applies table-limits t ≡ true → Sorted (tree t root)
+  unfolding no-rule-applies
+  passes-sorted e = table-sorted (first-passes (all-below m (parts-ordered t)) (fields-apart table-limits t) e) root (k .root-in)
+
+  pub passes-apart : no-rule-applies table-limits t ≡ true → Apart (tree t root)
+  unfolding no-rule-applies
+  passes-apart e = table-apart (second-passes (all-below m (parts-ordered t)) (fields-apart table-limits t) e) root (k .root-in)
+
+  pub passes-none : no-rule-applies table-limits t ≡ true → Applies (tree t root) → ⊥
+  passes-none e = no-rule (tree t root) (passes-sorted e) (passes-apart e)
