@@ -1,2 +1,3 @@
 pub mod AskingComputes
+pub mod CheckingComputes
 pub mod Proved

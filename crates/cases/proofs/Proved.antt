@@ -4,6 +4,7 @@ use mathlib.Core.List.{List, [], _∷_, map}
 use Rattle.cases.specs.Case.{CaseOutcome, outcomes, Case, EachHolds}
 use Rattle.cases.specs.Table.{cases}
 use Rattle.cases.proofs.AskingComputes.{asking-computes}
+use Rattle.cases.proofs.CheckingComputes.{checking-computes}
 use Rattle.operations.proofs.Computing.{operations-compute}
 
 found : List Case → List (List CaseOutcome)
@@ -18,5 +19,5 @@ each [] e = tt
 each (c ∷ table) e = (cc, each table (cc))
 
 pub cases-hold : EachHolds cases
-unfolding found wanted operations-compute asking-computes
+unfolding found wanted operations-compute asking-computes checking-computes
 cases-hold = each cases refl

@@ -6,6 +6,9 @@ use lib.IntN.{ℤ}
 use Rattle.examples.specs.Example.{example-number}
 use Rattle.examples.specs.Example as examples
 use Rattle.examples.specs.LargestGap.{list-gap}
+use Rattle.normal_form.specs.Check as normal-form
+use Rattle.normal_form.specs.Checked.{checked-number, checked-result}
+use Rattle.normal_form.specs.Limits.{table-limits}
 use Rattle.operations.specs.declared.answer.Built.{Built}
 use Rattle.operations.specs.Built.{built-number, built-result}
 use Rattle.operations.specs.Operations as operation
@@ -41,6 +44,8 @@ pub data CaseCall : Type 0 where
   verdict : ℕ → CaseCall
   -- a handle, and the words lent for the sheet
   example : ℕ → List ℕ → CaseCall
+  -- the words of a table of entries, and a root; the store has no part in it
+  check : List ℕ → ℕ → CaseCall
   -- no call: what K of the store's list is
   ask-list-gap : CaseCall
 
@@ -50,6 +55,8 @@ pub data CaseOutcome : Type 0 where
   simplified : ℕ → ℕ → ℕ → ℕ → ℤ → CaseOutcome
   -- number, result, the store's words, and the other words lent
   answered : ℕ → ℕ → List ℕ → List ℕ → CaseOutcome
+  -- a check's number and result: nothing is lent to be written
+  checked : ℕ → ℕ → CaseOutcome
   -- K
   gap-is : ℕ → CaseOutcome
 
@@ -83,6 +90,9 @@ outcomes s (verdict handle ∷ calls) =
 outcomes s (example handle out ∷ calls) =
     let o = examples.example store-limits s handle out in
     answered (example-number (o .answer)) 0 s (o .words) ∷ outcomes s calls
+outcomes s (check table root ∷ calls) =
+    let c = normal-form.check table-limits table root in
+    checked (checked-number c) (checked-result c) ∷ outcomes s calls
 outcomes s (ask-list-gap ∷ calls) = gap-is (list-gap s) ∷ outcomes s calls
 
 -- A row of the table: the store's words at the start, the calls, and what each must leave.

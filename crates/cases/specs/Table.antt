@@ -5,7 +5,7 @@ use mathlib.Core.List.{List, [], _∷_, _++_}
 use lib.IntN.{pos, negsuc}
 use lib.ListN.{replicate}
 use Rattle.operations.specs.ThreeEqual.{three-equal, last-equal, outer-equal, not-outer, after-case-6}
-use Rattle.cases.specs.Case.{simplify, open-with, build, negate, join, read, write-back, verdict, example, ask-list-gap, simplified, answered, gap-is, Case}
+use Rattle.cases.specs.Case.{simplify, open-with, build, negate, join, read, write-back, verdict, example, check, ask-list-gap, simplified, answered, checked, gap-is, Case}
 
 -- S3(1) = S1(2) simplifies to 2 = S2(1): words 2, 65, gap 2.
 abbrev pub case-1 : Case
@@ -175,7 +175,128 @@ case-11 =
           ∷ answered 52 0 s (7 ∷ []) ∷ answered 41 0 s (7 ∷ []) ∷ gap-is 1 ∷ [];
     }
 
+-- ---- document 02 (vii): tables of entries, each with its root
+-- No entries: a root of 0 is never, 1 always, and 2 no handle. Three words are no entries. Handle 3 is not there, with one entry.
+abbrev pub check-shapes : Case
+check-shapes = record {
+  start = [];
+  calls =
+      check [] 0
+      ∷ check [] 1
+      ∷ check [] 2
+      ∷ check (3 ∷ 2 ∷ 1 ∷ []) 2
+      ∷ check (3 ∷ 2 ∷ 1 ∷ 0 ∷ []) 3 ∷ [];
+  expected = checked 0 0 ∷ checked 0 1 ∷ checked 81 0 ∷ checked 81 0 ∷ checked 81 0 ∷ [];
+}
+
+-- Document 000's Example 29, S2(2) = 1 over 3 = 2: rule 8' applies; rewritten, with S2(3) = 1 below, none does. Its Example 36, 2 = 1 over 3 = 1.
+abbrev pub check-examples : Case
+check-examples = record {
+  start = [];
+  calls =
+      check (3 ∷ 2 ∷ 1 ∷ 0 ∷ 66 ∷ 1 ∷ 2 ∷ 0 ∷ []) 3
+      ∷ check (67 ∷ 1 ∷ 1 ∷ 0 ∷ 66 ∷ 1 ∷ 2 ∷ 0 ∷ []) 3
+      ∷ check (3 ∷ 1 ∷ 1 ∷ 0 ∷ 2 ∷ 1 ∷ 2 ∷ 0 ∷ []) 3 ∷ [];
+  expected = checked 86 0 ∷ checked 0 2 ∷ checked 0 2 ∷ [];
+}
+
+-- Rule 8' deep in the yes part, also by a no on the way; in the no part the left field may be named. Document 01's case 12, 2 = S(0) over 2 = S3(1), and over it by no.
+abbrev pub check-rule-8 : Case
+check-rule-8 = record {
+  start = [];
+  calls =
+      check (4 ∷ 2 ∷ 1 ∷ 0 ∷ 3 ∷ 1 ∷ 2 ∷ 0 ∷ 2 ∷ 1 ∷ 3 ∷ 0 ∷ []) 4
+      ∷ check (4 ∷ 2 ∷ 1 ∷ 0 ∷ 3 ∷ 1 ∷ 1 ∷ 2 ∷ 2 ∷ 1 ∷ 3 ∷ 0 ∷ []) 4
+      ∷ check (3 ∷ 2 ∷ 1 ∷ 0 ∷ 2 ∷ 1 ∷ 1 ∷ 2 ∷ []) 3
+      ∷ check (2 ∷ 97 ∷ 1 ∷ 0 ∷ 2 ∷ 32 ∷ 2 ∷ 0 ∷ []) 3
+      ∷ check (2 ∷ 97 ∷ 1 ∷ 0 ∷ 2 ∷ 32 ∷ 0 ∷ 2 ∷ []) 3 ∷ [];
+  expected = checked 86 0 ∷ checked 86 0 ∷ checked 0 2 ∷ checked 86 0 ∷ checked 0 2 ∷ [];
+}
+
+-- Rules 3, 4, 5, 6 and 7, one after the other.
+abbrev pub check-rules-3-to-7 : Case
+check-rules-3-to-7 = record {
+  start = [];
+  calls =
+      check (2 ∷ 1 ∷ 1 ∷ 1 ∷ []) 2
+      ∷ check (2 ∷ 1 ∷ 1 ∷ 0 ∷ 2 ∷ 1 ∷ 2 ∷ 1 ∷ []) 3
+      ∷ check (2 ∷ 1 ∷ 1 ∷ 0 ∷ 2 ∷ 1 ∷ 1 ∷ 2 ∷ []) 3
+      ∷ check (2 ∷ 1 ∷ 1 ∷ 0 ∷ 3 ∷ 1 ∷ 2 ∷ 1 ∷ []) 3
+      ∷ check (2 ∷ 1 ∷ 1 ∷ 0 ∷ 3 ∷ 1 ∷ 1 ∷ 2 ∷ []) 3 ∷ [];
+  expected = checked 86 0 ∷ checked 86 0 ∷ checked 86 0 ∷ checked 86 0 ∷ checked 86 0 ∷ [];
+}
+
+-- The right field is compared before the left steps: S(3) = 1, then by no 3 = 2, and the other way round.
+abbrev pub check-order : Case
+check-order = record {
+  start = [];
+  calls =
+      check (3 ∷ 2 ∷ 1 ∷ 0 ∷ 35 ∷ 1 ∷ 1 ∷ 2 ∷ []) 3
+      ∷ check (35 ∷ 1 ∷ 1 ∷ 0 ∷ 3 ∷ 2 ∷ 1 ∷ 2 ∷ []) 3 ∷ [];
+  expected = checked 0 2 ∷ checked 86 0 ∷ [];
+}
+
+-- 4,096 steps; field 17; the smaller field on the left; steps on both sides; steps on the left of a number; one field on both sides. 4,095 steps are allowed, on
+-- either side.
+abbrev pub check-terms : Case
+check-terms = record {
+  start = [];
+  calls =
+      check (2 ∷ 131073 ∷ 1 ∷ 0 ∷ []) 2
+      ∷ check (17 ∷ 1 ∷ 1 ∷ 0 ∷ []) 2
+      ∷ check (1 ∷ 2 ∷ 1 ∷ 0 ∷ []) 2
+      ∷ check (34 ∷ 33 ∷ 1 ∷ 0 ∷ []) 2
+      ∷ check (33 ∷ 0 ∷ 1 ∷ 0 ∷ []) 2
+      ∷ check (2 ∷ 2 ∷ 1 ∷ 0 ∷ []) 2
+      ∷ check (131074 ∷ 1 ∷ 1 ∷ 0 ∷ []) 2
+      ∷ check (2 ∷ 131041 ∷ 1 ∷ 0 ∷ []) 2
+      ∷ check (16 ∷ 131055 ∷ 1 ∷ 0 ∷ []) 2
+      ∷ check (131042 ∷ 1 ∷ 1 ∷ 0 ∷ []) 2 ∷ [];
+  expected =
+      checked 82 0 ∷ checked 82 0 ∷ checked 82 0 ∷ checked 82 0 ∷ checked 82 0 ∷ checked 82 0 ∷ checked 82 0
+      ∷ checked 0 2 ∷ checked 0 2 ∷ checked 0 2 ∷ [];
+}
+
+-- A handle that is its entry's own, and one that is far above; such a handle before a term that is not simplified: terms are tested over the whole table first. Equal
+-- entries, whichever is the root. An entry that no handle names, one above the root, and any entry below a leaf.
+abbrev pub check-handles : Case
+check-handles = record {
+  start = [];
+  calls =
+      check (2 ∷ 1 ∷ 2 ∷ 0 ∷ []) 2
+      ∷ check (2 ∷ 1 ∷ 4294967295 ∷ 0 ∷ []) 2
+      ∷ check (2 ∷ 1 ∷ 4294967295 ∷ 0 ∷ 2 ∷ 2 ∷ 1 ∷ 0 ∷ []) 3
+      ∷ check (3 ∷ 2 ∷ 1 ∷ 0 ∷ 3 ∷ 2 ∷ 1 ∷ 0 ∷ []) 3
+      ∷ check (3 ∷ 2 ∷ 1 ∷ 0 ∷ 3 ∷ 2 ∷ 1 ∷ 0 ∷ []) 2
+      ∷ check (3 ∷ 2 ∷ 1 ∷ 0 ∷ 2 ∷ 1 ∷ 1 ∷ 0 ∷ []) 3
+      ∷ check (3 ∷ 2 ∷ 1 ∷ 0 ∷ 2 ∷ 1 ∷ 2 ∷ 0 ∷ []) 2
+      ∷ check (3 ∷ 2 ∷ 1 ∷ 0 ∷ []) 1 ∷ [];
+  expected = checked 83 0 ∷ checked 83 0 ∷ checked 82 0 ∷ checked 84 0 ∷ checked 84 0 ∷ checked 85 0 ∷ checked 85 0 ∷ checked 85 0 ∷ [];
+}
+
+-- Entries that differ in one word alone are not equal: the left term, the right term, the yes handle, the no handle.
+abbrev pub check-entries : Case
+check-entries = record {
+  start = [];
+  calls =
+      check (3 ∷ 1 ∷ 1 ∷ 0 ∷ 4 ∷ 1 ∷ 1 ∷ 0 ∷ 2 ∷ 1 ∷ 2 ∷ 3 ∷ []) 4
+      ∷ check (3 ∷ 1 ∷ 1 ∷ 0 ∷ 3 ∷ 2 ∷ 1 ∷ 0 ∷ 2 ∷ 1 ∷ 2 ∷ 3 ∷ []) 4
+      ∷ check (4 ∷ 1 ∷ 1 ∷ 0 ∷ 3 ∷ 1 ∷ 1 ∷ 0 ∷ 3 ∷ 1 ∷ 2 ∷ 0 ∷ 2 ∷ 1 ∷ 3 ∷ 4 ∷ []) 5
+      ∷ check (4 ∷ 1 ∷ 1 ∷ 0 ∷ 3 ∷ 1 ∷ 0 ∷ 1 ∷ 3 ∷ 1 ∷ 0 ∷ 2 ∷ 2 ∷ 1 ∷ 3 ∷ 4 ∷ []) 5 ∷ [];
+  expected = checked 0 2 ∷ checked 0 2 ∷ checked 0 2 ∷ checked 0 2 ∷ [];
+}
+
+-- 4,096 entries are allowed, so that the first of them is looked at, and it is no question; 4,097 are not.
+abbrev pub check-limits : Case
+check-limits = record {
+  start = [];
+  calls = check (replicate 16384 0) 0 ∷ check (replicate 16388 0) 0 ∷ [];
+  expected = checked 82 0 ∷ checked 81 0 ∷ [];
+}
+
 abbrev pub cases : List Case
 cases =
     case-1 ∷ case-2 ∷ case-3 ∷ case-4 ∷ case-5-opened ∷ case-5-short ∷ cases-6-to-8 ∷ case-6-short ∷ case-9 ∷ case-11 ∷ case-11-built ∷ case-12
-    ∷ steps-simplified ∷ steps-built ∷ steps-in-a-store ∷ steps-beyond-in-a-store ∷ []
+    ∷ steps-simplified ∷ steps-built ∷ steps-in-a-store ∷ steps-beyond-in-a-store
+    ∷ check-shapes ∷ check-examples ∷ check-rule-8 ∷ check-rules-3-to-7 ∷ check-order ∷ check-terms ∷ check-handles
+    ∷ check-entries ∷ check-limits ∷ []
