@@ -1,5 +1,5 @@
 -- What a table that passes 81 to 85 is like, said in plain facts: each test says what it tests, and what the marks say is reached.
-use Prim.Native.Nat.{ℕ, _+_, _≤_, _<_, _%_}
+use Prim.Native.Nat.{ℕ, _+_, _≤_, _<_}
 use mathlib.Core.Path.{_≡_, sym, ap, _∙_}
 use mathlib.Core.Bool.{Bool, true, false, false≢true, not, and-false}
 use mathlib.Core.Logic.{_≢_}
@@ -7,8 +7,8 @@ use mathlib.Core.List.{List}
 use native.Mathlib.Omega.{arith}
 use native.Mathlib.Decide.{decLt}
 use borrow.Author.Tests.{eq-eqb, leb-true, ltb-true, not-true}
-use lib.Dec.{eqb, leb, ltb}
-use lib.ListN.{length, getD}
+use lib.Dec.{leb, ltb}
+use lib.ListN.{getD}
 use Rattle.store.specs.Layout.{leaves}
 use Rattle.store.specs.Sound.{all-below}
 use Rattle.store.proofs.Tests.{passes, first-passes, second-passes, all-below-says}
@@ -23,7 +23,7 @@ use Rattle.normal_form.specs.Accepted.{Passes81To85}
 use Rattle.normal_form.specs.Check.{shape-kept, terms-kept, handles-lower, same-entry, entries-differ, all-reachable}
 use Rattle.normal_form.specs.Limits.{most-entries, table-limits}
 use Rattle.normal_form.specs.Reachable.{Reaches, reachable}
-use Rattle.normal_form.specs.Table.{entry-length, entry-count, entry, asks}
+use Rattle.normal_form.specs.Table.{entry-count, entry, asks}
 use Rattle.normal_form.proofs.ByHandles.{Falling}
 use Rattle.normal_form.proofs.Marks.{marks-exact}
 use Rattle.normal_form.proofs.PathSheet.{Asked}

@@ -2,24 +2,20 @@
 -- and the entry's handles are lower than its own, so their flags stand by then. So after all entries a leaf's flag is not set, and an entry's is if its
 -- equation names the field or the flag of one of its two handles is set; by the handles the same holds of the diagrams.
 use Prim.Native.Nat.{ℕ, zero, suc, _+_, _≤_, _<_}
-use mathlib.Core.Path.{_≡_, refl, _∙_, ap}
+use mathlib.Core.Path.{_≡_, refl, _∙_}
 use mathlib.Core.Logic.{_↔_, _⊎_, inl, inr, ⊎-elim}
 use mathlib.Core.Bool.{Bool, true, false, false≢true, _||_}
 use mathlib.Core.List.{List}
 use native.Mathlib.Omega.{arith}
 use native.Mathlib.Decide.{ℕ-discrete}
-use borrow.Author.Tests.{eqb-true, eq-eqb}
-use lib.Dec.{eqb}
 use lib.ListN.{length, getD, length-set, length-replicate}
 use lib.Seq.{getD-set-same, getD-set-other}
-use Rattle.terms.specs.declared.term.Equation.{Equation}
-use Rattle.terms.specs.declared.term.Field.{Field}
 use Rattle.terms.specs.Words.{field}
 use Rattle.store.specs.Layout.{leaves}
 use Rattle.normal_form.specs.declared.limits.TableLimits.{TableLimits}
-use Rattle.normal_form.specs.Named.{names, named}
+use Rattle.normal_form.specs.Named.{named}
 use Rattle.normal_form.specs.Reachable.{flag-count}
-use Rattle.normal_form.specs.Rules.{Names, SomeAsks}
+use Rattle.normal_form.specs.Rules.{names, Names, SomeAsks}
 use Rattle.normal_form.specs.Table.{entry-count, entry, asks}
 use Rattle.normal_form.specs.Tree.{tree}
 use Rattle.normal_form.proofs.ByHandles.{Falling, by-handles, tree-leaf, tree-entry}
@@ -28,12 +24,6 @@ use Rattle.normal_form.proofs.Marks.{none-marked}
 either-exact : {A B : Type 0} {a b : Bool} → (a ≡ true) ↔ A → (b ≡ true) ↔ B → ((a || b) ≡ true) ↔ (A ⊎ B)
 either-exact {a = true} p q = (λ _. inl (p .0 refl), λ _. refl)
 either-exact {a = false} p q = (λ e. inr (q .0 e), ⊎-elim (λ x. absurd (false≢true (p .1 x))) (q .1))
-
-same-field : (y : Field) (f : ℕ) → (eqb (y .0) f ≡ true) ↔ (y ≡ field f)
-same-field y f = (λ e i. field (eqb-true (y .0) f e i), λ p. eq-eqb (y .0) f (ap (λ (x : Field). x .0) p))
-
-pub names-exact : (f : ℕ) (g : Equation) → (names f g ≡ true) ↔ Names (field f) g
-names-exact f g = either-exact (same-field (g .left .field) f) (same-field (g .right .field) f)
 
 module _ (limits : TableLimits) {t : List ℕ} (falls : Falling t (entry-count t)) (f : ℕ) (few : entry-count t ≤ limits .entries) where
   -- the flag of a handle after the first k entries
@@ -71,4 +61,4 @@ module _ (limits : TableLimits) {t : List ℕ} (falls : Falling t (entry-count t
   pub named-exact : (h : ℕ) → h < entry-count t + leaves → (getD (named limits f t (entry-count t)) h false ≡ true) ↔ SomeAsks (Names (field f)) (tree t h)
   named-exact = by-handles falls (λ h. (flag (entry-count t) h ≡ true) ↔ SomeAsks (Names (field f)) (tree t h))
       (λ h l. rw (tree-leaf t h l, flag-leaf h l) (false≢true, λ e. absurd e))
-      (λ i h y n. rw (tree-entry falls i h, flag-entry i h) (either-exact (names-exact f (asks (entry t i))) (either-exact y n)))
+      (λ i h y n. rw (tree-entry falls i h, flag-entry i h) (either-exact (λ e. e, λ e. e) (either-exact y n)))

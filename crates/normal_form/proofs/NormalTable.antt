@@ -1,15 +1,15 @@
 -- The tests of 86 and Definition 28's rules. If the tests of rules 3 to 7 pass at every entry, a part's first question is after its entry's, and so, the order being transitive, are all
 -- its questions: every diagram of the table is sorted. If besides no left field is flagged in its entry's yes part, every diagram is in normal form. If a test fails at an
 -- entry, the rule that it tests applies there; for rule 8', because the question found is after the entry's, as all are by then.
-use Prim.Native.Nat.{ℕ, zero, suc, _+_, _-_, _≤_, _<_}
+use Prim.Native.Nat.{ℕ, zero, suc, _+_, _-_, _<_}
 use mathlib.Core.Path.{_≡_, refl, sym, ap, _∙_}
-use mathlib.Core.Bool.{Bool, true, false, true≢false, false≢true, cond, not, _&&_, and-false}
+use mathlib.Core.Bool.{Bool, true, false, true≢false, false≢true, not, _&&_, and-false}
 use mathlib.Core.Logic.{_≢_, _⊎_, inl, inr}
 use mathlib.Core.List.{List}
 use native.Mathlib.Omega.{arith}
 use native.Mathlib.Decide.{ℕ-discrete}
 use borrow.Author.Tests.{eq-eqb, eqb-true, lt-ltb, le-ltb, not-true, not-false}
-use lib.Dec.{eqb, ltb}
+use lib.Dec.{eqb}
 use lib.ListN.{getD}
 use Rattle.store.specs.Layout.{leaves}
 use Rattle.store.specs.Sound.{all-below}
@@ -18,7 +18,7 @@ use Rattle.store.proofs.Tests.{passes, first-passes, second-passes, all-below-s
 use Rattle.terms.specs.declared.term.Equation.{Equation}
 use Rattle.terms.specs.Order.{fields-first, before}
 use Rattle.terms.specs.Words.{field}
-use Rattle.terms.proofs.Cases.{by-test, by-lt}
+use Rattle.terms.proofs.Cases.{by-test}
 use Rattle.terms.proofs.Numbers.{equations-equal}
 use Rattle.terms.proofs.QuestionOrder.{fields-first-strict-total}
 use Rattle.terms.proofs.SimplifyForm.{smaller-right}
@@ -29,7 +29,7 @@ use Rattle.normal_form.specs.Named.{named}
 use Rattle.normal_form.specs.Reachable.{Reaches, itself, by-yes, by-no}
 use Rattle.normal_form.specs.Rules.{Precedes, Names, RootAsks, SomeAsks, RuleAt, rule-3, rule-4, rule-5, rule-6, rule-7, rule-8, Applies}
 use Rattle.normal_form.specs.Table.{entry-count, entry, asks}
-use Rattle.normal_form.specs.Tree.{Tree, leaf, ite, tree}
+use Rattle.normal_form.specs.Tree.{Tree, ite, tree}
 use Rattle.normal_form.proofs.ByHandles.{by-handles, tree-leaf, tree-entry}
 use Rattle.normal_form.proofs.Kept.{Kept}
 use Rattle.normal_form.proofs.NamedFlags.{named-exact}

@@ -1,12 +1,12 @@
 -- A diagram whose parts ask later questions, differ, and don't name the left field of a yes again is in normal form: no rule of Definition 28 applies in it. Every path of
 -- it has facts in order, so some sheet follows it, and both leaves are reached unless it is a leaf itself.
-use Prim.Native.Nat.{ℕ, _≤_}
+use Prim.Native.Nat.{_≤_}
 use mathlib.Core.Path.{_≡_, refl, sym, ap, _∙_}
-use mathlib.Core.Bool.{Bool, true, false, true≢false, false≢true, cond}
+use mathlib.Core.Bool.{Bool, true, false, false≢true, cond, or-true}
 use mathlib.Core.Logic.{_≢_, _⊎_, inl, inr}
-use mathlib.Core.List.{List, [], _∷_}
 use native.Mathlib.Omega.{arith}
 use native.Mathlib.Decide.{decLt}
+use borrow.Author.Tests.{eq-eqb}
 use Rattle.facts.specs.declared.fact.Fact.{Fact}
 use Rattle.facts.specs.Facts.{fact, Fits}
 use Rattle.terms.specs.declared.term.Equation.{Equation}
@@ -113,7 +113,9 @@ each-path Q P f (ite g y n) e (inl p) = (f (fact g true) (e .0), each-path Q P f
 each-path Q P f (ite g y n) e (inr p) = (f (fact g false) (e .0), each-path Q P f n (e .2) p)
 
 named-by : (g h : Equation) → Unnamed g h → (h .left .field .0 ≢ g .left .field .0) × (h .right .field .0 ≢ g .left .field .0)
-named-by g h u = (λ e. u (inl (λ i. field (e i))), λ e. u (inr (λ i. field (e i))))
+named-by g h u =
+    let y = g .left .field .0 in
+    (λ e. u (simp (eq-eqb (h .left .field .0) y e)), λ e. u (simp (eq-eqb (h .right .field .0) y e, or-true)))
 
 before-yes : (g : Equation) (z : Fact) → Precedes g (z .question) × Unnamed g (z .question) → Before (fact g true) z
 before-yes g z e = record {

@@ -15,7 +15,7 @@ use Rattle.terms.proofs.Cases.{by-eq}
 use Rattle.terms.proofs.TermWords.{word-of-term-of}
 use Rattle.normal_form.specs.declared.entry.Entry.{Entry}
 use Rattle.normal_form.specs.Table.{entry-count, entry, asks}
-use Rattle.normal_form.specs.Tree.{Tree, leaf, ite, tree}
+use Rattle.normal_form.specs.Tree.{ite, tree}
 use Rattle.normal_form.proofs.ByHandles.{by-handles, tree-leaf, tree-entry}
 use Rattle.normal_form.proofs.Kept.{Kept}
 

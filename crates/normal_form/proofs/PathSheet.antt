@@ -1,13 +1,13 @@
 -- Facts in the order of a normal form's path are fitted by one sheet: a field that no yes speaks of as its left field counts its own number in units of 8,191, and any other counts
 -- what that yes says of its right field. Fields are so far apart that a question with other fields is false, and a question with the same fields that is true has the
 -- same steps, so it is the same question.
-use Prim.Native.Nat.{ℕ, _+_, _-_, _*_, _≤_, _<_, min}
+use Prim.Native.Nat.{ℕ, _+_, _-_, _*_, _≤_, _<_}
 use mathlib.Core.Path.{_≡_, refl, sym, ap, ap₂, _∙_}
-use mathlib.Core.Bool.{Bool, true, false, true≢false, cond, _&&_, and-false}
-use mathlib.Core.Logic.{_≢_, _⊎_, inl, inr, ⊎-elim}
+use mathlib.Core.Bool.{true, false, cond, _&&_, and-false}
+use mathlib.Core.Logic.{_≢_}
 use mathlib.Core.List.{List, [], _∷_}
 use native.Mathlib.Omega.{arith}
-use native.Mathlib.Decide.{ℕ-discrete, decLt}
+use native.Mathlib.Decide.{ℕ-discrete}
 use borrow.Author.Tests.{eq-eqb, ne-eqb}
 use lib.Dec.{eqb}
 use Rattle.facts.specs.declared.fact.Fact.{Fact}

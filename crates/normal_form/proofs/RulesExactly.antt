@@ -8,11 +8,11 @@ use mathlib.Core.List.{List}
 use native.Mathlib.Omega.{arith}
 use lib.Dec.{eqb}
 use Rattle.store.specs.Sound.{all-below}
-use Rattle.terms.proofs.Cases.{by-test, by-eq}
+use Rattle.terms.proofs.Cases.{by-test}
 use Rattle.normal_form.specs.declared.answer.CheckFault.{CheckFault}
 use Rattle.normal_form.specs.declared.answer.CheckFault.the-variants.{BadShape, BadTerm, HandleNotLower, EqualEntries, NotReachable, RuleApplies}
 use Rattle.normal_form.specs.declared.answer.Checked.{Checked}
-use Rattle.normal_form.specs.declared.answer.Checked.the-variants.{Never, Always, Sometimes, Refused}
+use Rattle.normal_form.specs.declared.answer.Checked.the-variants.{Refused}
 use Rattle.normal_form.specs.Accepted.{Passes81To85, Accepted}
 use Rattle.normal_form.specs.Check.{shape-kept, terms-kept, handles-lower, entries-differ, all-reachable, no-rule-applies, root-verdict, check}
 use Rattle.normal_form.specs.Limits.{table-limits}
@@ -27,10 +27,14 @@ passes-and : (b : Bool) (x : Checked) (f : CheckFault) → ((g : CheckFault) →
 passes-and true x f a = (refl, a)
 passes-and false x f a = absurd (a f refl)
 
+-- what is picked of two answers that are no refusals is none
+picks-accepted : (b : Bool) (x y : Checked) (f : CheckFault) → x ≢ Refused f → y ≢ Refused f → cond b x y ≢ Refused f
+picks-accepted true x y f p q = p
+picks-accepted false x y f p q = q
+
 verdict-accepts : (root : ℕ) (f : CheckFault) → root-verdict root ≢ Refused f
-verdict-accepts root f = by-eq (λ b. cond b Never (cond (eqb root 1) Always Sometimes) ≢ Refused f) root 0
-    (λ _ e. let z : _≡_ {A = ℕ} 0 1 = cc in omega arith)
-    (λ _. by-eq (λ b. cond b Always Sometimes ≢ Refused f) root 1 (λ _ e. let z : _≡_ {A = ℕ} 0 1 = cc in omega arith) (λ _ e. let z : _≡_ {A = ℕ} 0 1 = cc in omega arith))
+verdict-accepts root f = picks-accepted (eqb root 0) _ _ f (λ e. let z : _≡_ {A = ℕ} 0 1 = cc in omega arith)
+    (picks-accepted (eqb root 1) _ _ f (λ e. let z : _≡_ {A = ℕ} 0 1 = cc in omega arith) (λ e. let z : _≡_ {A = ℕ} 0 1 = cc in omega arith))
 
 module _ (t : List ℕ) (root : ℕ) where
   -- what is left of the check after 85

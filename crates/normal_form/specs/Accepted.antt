@@ -1,7 +1,7 @@
 -- What the theorems speak of: tables that pass the first five conditions, and tables that are accepted.
 use Prim.Native.Nat.{ℕ}
 use mathlib.Core.Path.{_≡_}
-use mathlib.Core.Bool.{Bool, true}
+use mathlib.Core.Bool.{true}
 use mathlib.Core.Logic.{_≢_}
 use mathlib.Core.List.{List}
 use Rattle.store.specs.Sound.{all-below}

@@ -2,17 +2,12 @@
 use Prim.Native.Nat.{ℕ, zero, suc, _+_}
 use mathlib.Core.Bool.{Bool, false, _||_}
 use mathlib.Core.List.{List}
-use lib.Dec.{eqb}
 use lib.ListN.{getD, set, replicate}
 use Rattle.store.specs.Layout.{leaves}
-use Rattle.terms.specs.declared.term.Equation.{Equation}
 use Rattle.normal_form.specs.declared.limits.TableLimits.{TableLimits}
 use Rattle.normal_form.specs.Reachable.{flag-count}
+use Rattle.normal_form.specs.Rules.{names}
 use Rattle.normal_form.specs.Table.{entry, asks}
-
--- field f stands on one of the two sides
-abbrev pub names : ℕ → Equation → Bool
-names f g = eqb (g .left .field .0) f || eqb (g .right .field .0) f
 
 -- Whether f is named at or below each handle, after the first k entries: handles named are lower than their entry's own, so one pass upwards finds it.
 unfoldable pub named : TableLimits → ℕ → List ℕ → ℕ → List Bool

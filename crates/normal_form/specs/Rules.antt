@@ -1,8 +1,10 @@
 -- Document 000's Definition 28: a diagram is in normal form if none of these rules applies in it, at its root or within. Each rule is quoted with its left side and its condition;
 -- what it rewrites to doesn't matter here. Rules 1 and 2, ITE(⊤, T1, T2) and ITE(⊥, T1, T2), speak of guards that 82 shuts out.
+use Prim.Native.Nat.{ℕ}
 use mathlib.Core.Path.{_≡_}
-use mathlib.Core.Bool.{true}
+use mathlib.Core.Bool.{Bool, true, _||_}
 use mathlib.Core.Logic.{_⊎_}
+use lib.Dec.{eqb}
 use Rattle.terms.specs.declared.term.Equation.{Equation}
 use Rattle.terms.specs.declared.term.Field.{Field}
 use Rattle.terms.specs.Order.{fields-first, before}
@@ -13,8 +15,11 @@ abbrev pub Precedes : Equation → Equation → Type 0
 Precedes f g = before fields-first f g ≡ true
 
 -- "y occurs in g", on either side
+abbrev pub names : ℕ → Equation → Bool
+names y g = eqb (g .left .field .0) y || eqb (g .right .field .0) y
+
 abbrev pub Names : Field → Equation → Type 0
-Names y g = (g .left .field ≡ y) ⊎ (g .right .field ≡ y)
+Names y g = names (y .0) g ≡ true
 
 -- a part that is ITE(h, T1, T2) with such an h
 abbrev pub RootAsks : (Equation → Type 0) → Tree → Type 0
