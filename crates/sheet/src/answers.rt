@@ -3,6 +3,9 @@ ghost use mathlib.Core.Path.{_≡_};
 ghost use Rattle.sheet.specs.Answers as spec;
 use examples::Example;
 use examples::example_number;
+use normal_form::Checked;
+use normal_form::checked_number;
+use normal_form::checked_result;
 use operations::Built;
 use operations::built_number;
 use operations::built_result;
@@ -82,5 +85,15 @@ pub fn written_answer(w: Written) -> Answer
     Answer {
         number: written_number(w),
         result: written_result(w),
+    }
+}
+
+// The answer of a check.
+pub fn checked_answer(c: Checked) -> Answer
+    ensures { λ r. ⌜ r ≡ spec.checked-answer c ⌝ }
+{
+    Answer {
+        number: checked_number(c),
+        result: checked_result(c),
     }
 }

@@ -3,6 +3,7 @@
 mod answers;
 mod asking;
 mod changing;
+mod diagrams;
 mod equations;
 
 pub use answers::Answer;
@@ -15,4 +16,5 @@ pub use changing::sheet_choose;
 pub use changing::sheet_join;
 pub use changing::sheet_negate;
 pub use changing::sheet_open;
+pub use diagrams::sheet_check_normal_form;
 pub use equations::sheet_simplify;

@@ -5,6 +5,7 @@ use crate::asking::simplify;
 use crate::asking::verdict;
 use crate::asking::write_back;
 use crate::changing::change;
+use crate::diagrams::diagram;
 use crate::lending::Lent;
 use crate::lending::lend_out;
 use crate::lending::lend_store;
@@ -27,6 +28,7 @@ fn ask(lent: Lent, name: u8, numbers: Numbers) {
         b'r' => read(store, numbers),
         b'e' => example(store, handle, lent.out),
         b'w' => write_back(store, handle, lent.out),
+        b'd' => diagram(numbers),
         _ => simplify(handle, words[1]),
     }
 }

@@ -4,6 +4,7 @@ mod asking;
 mod calls;
 mod changing;
 mod comparing;
+mod diagrams;
 mod lending;
 mod lines;
 mod printing;

@@ -1,0 +1,9 @@
+pub mod EntryWays
+pub mod PassWays
+pub mod TermWays
+pub mod HandleWays
+pub mod DifferWays
+pub mod MarkWays
+pub mod OrderWays
+pub mod NameWays
+pub mod CheckWays

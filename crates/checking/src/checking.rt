@@ -1,0 +1,95 @@
+// The check, in the order of its numbers. No entry is read by a handle before every handle is known to be lower than its entry's own.
+ghost use mathlib.Core.Path.{_≡_};
+ghost use Rattle.checking.specs.Needs.{Falling, Rooted, Sized, check-entries, check-diagram};
+ghost use Rattle.normal_form.specs.Check as rule;
+ghost use Rattle.normal_form.specs.Limits.{table-limits};
+use crate::differing::entries_differ;
+use crate::entries::CAPACITY;
+use crate::entries::ENTRY_LENGTH;
+use crate::handles::all_handles_lower;
+use crate::marking::all_reachable;
+use crate::naming::fields_apart;
+use crate::ordering::all_ordered;
+use crate::questions::all_terms_kept;
+use normal_form::CheckFault;
+use normal_form::Checked;
+use store::LEAVES;
+use store::wide;
+
+// Number 81: whether the words are a whole number of entries, not too many, and the root is one of their handles.
+fn shape_kept(t: &[u32], root: u32) -> bool
+    ensures { λ r. ⌜ r ≡ rule.shape-kept table-limits (now (t .entry)) root ⌝ }
+{
+    if t.len() % ENTRY_LENGTH == 0 {
+        let count = t.len() / ENTRY_LENGTH;
+        if count <= CAPACITY {
+            return wide(root) < count + LEAVES;
+        }
+    }
+    false
+}
+
+// Number 86: whether none of Definition 28's rules applies.
+fn no_rule_applies(t: &[u32], count: usize) -> bool
+    requires { ⌜ Falling (now t) count ⌝ }
+    ensures { λ r. ⌜ r ≡ rule.no-rule-applies table-limits (now (t .entry)) ⌝ }
+{
+    if all_ordered(t, count) {
+        return fields_apart(t, count);
+    }
+    false
+}
+
+// The verdict of the root of an accepted table.
+fn root_verdict(root: u32) -> Checked
+    ensures { λ r. ⌜ r ≡ rule.root-verdict root ⌝ }
+{
+    if root == 0 {
+        return Checked::Never;
+    }
+    if root == 1 {
+        return Checked::Always;
+    }
+    Checked::Sometimes
+}
+
+// The conditions 84 to 86, of entries whose handles can be followed.
+fn check_diagram(t: &[u32], root: u32, count: usize) -> Checked
+    requires { ⌜ Rooted (now t) root count ⌝ }
+    ensures { λ r. ⌜ r ≡ check-diagram (now (t .entry)) root ⌝ }
+{
+    if entries_differ(t, count) {
+        if all_reachable(t, wide(root), count) {
+            if no_rule_applies(t, count) {
+                return root_verdict(root);
+            }
+            return Checked::Refused(CheckFault::RuleApplies);
+        }
+        return Checked::Refused(CheckFault::NotReachable);
+    }
+    Checked::Refused(CheckFault::EqualEntries)
+}
+
+// The conditions 82 to 86.
+fn check_entries(t: &[u32], root: u32, count: usize) -> Checked
+    requires { ⌜ Sized (now t) root count ⌝ }
+    ensures { λ r. ⌜ r ≡ check-entries (now (t .entry)) root ⌝ }
+{
+    if all_terms_kept(t, count) {
+        if all_handles_lower(t, count) {
+            return check_diagram(t, root, count);
+        }
+        return Checked::Refused(CheckFault::HandleNotLower);
+    }
+    Checked::Refused(CheckFault::BadTerm)
+}
+
+// Whether a table of entries is in Definition 28's normal form from a root on: the root's verdict, or the first condition that fails.
+pub fn check_normal_form(table: &[u32], root: u32) -> Checked
+    ensures { λ r. ⌜ r ≡ rule.check table-limits (now (table .entry)) root ⌝ }
+{
+    if shape_kept(table, root) {
+        return check_entries(table, root, table.len() / ENTRY_LENGTH);
+    }
+    Checked::Refused(CheckFault::BadShape)
+}
