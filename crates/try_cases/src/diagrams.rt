@@ -35,21 +35,31 @@ fn put_entry(table: &mut [u32], entries: u32, i: u32)
     put(table, at + 3, handle_before(i));
 }
 
-fn check_chain(entries: u32) {
-    let mut table = [0u32; CHAIN_LENGTH];
+fn put_entries(table: &mut [u32], entries: u32) {
     for i in 0..MOST_CHAINED {
-        put_entry(&mut table, entries, i);
+        put_entry(table, entries, i);
     }
-    let length = 4 * (entries as usize);
-    answer(sheet_check_normal_form(part(&table, 0, length), entries % 65536 + 1));
 }
 
-// A root, and the words of a table after the bar; or, without a bar, a chain of so many entries with the last as its root.
+// The last entry is the root.
+fn check_first(table: &[u32], entries: u32) {
+    let length = 4 * (entries as usize);
+    answer(sheet_check_normal_form(part(table, 0, length), entries % 65536 + 1));
+}
+
+fn check_chain(entries: u32) {
+    let mut table = [0u32; CHAIN_LENGTH];
+    put_entries(&mut table, entries);
+    check_first(&table, entries);
+}
+
+// A root, and the words of a table after the bar; or, without a bar, a chain of so many entries.
 pub fn diagram(numbers: Numbers) {
     let words = numbers.words;
+    let first = words[0];
     if numbers.bar == NO_BAR {
-        check_chain(words[0]);
+        check_chain(first);
     } else {
-        answer(sheet_check_normal_form(part(&words, 1, numbers.count), words[0]));
+        answer(sheet_check_normal_form(part(&words, 1, numbers.count), first));
     }
 }

@@ -1,0 +1,39 @@
+-- `put_entries` is safe and ends: the loop's place stays within its bound.
+use Prim.Native.Nat.{_-_, _≤_}
+use mathlib.Core.Path.{_≡_}
+use borrow.Author.Needs.{needs}
+use lib.ListN.{length}
+use Rattle.try_cases.proofs.diagrams.put_entries.Statement.{statement}
+use Rattle.try_cases.proofs.diagrams.put_entries.Tie as tie
+
+abbrev Inv-loop : tie.InvT-loop
+Inv-loop table₀ entries i₀ table i = (i ≤ 4097) × (length table ≡ length table₀)
+
+abbrev μ-loop : tie.MeasureT-loop
+μ-loop table₀ entries i₀ table i = 4097 - i
+
+loop-holds : tie.Need-loop-holds Inv-loop μ-loop
+loop-holds c = search needs
+
+put-entry-requires : tie.Need-put-entry-requires Inv-loop μ-loop
+put-entry-requires c κs = search needs
+
+add-i : tie.Need-add-i Inv-loop μ-loop
+add-i c = search needs
+
+loop-less : tie.Need-loop-less Inv-loop μ-loop
+loop-less c = search needs
+
+loop-again : tie.Need-loop-again Inv-loop μ-loop
+loop-again c = search needs
+
+same-length : tie.Need-same-length Inv-loop μ-loop
+same-length c = search needs
+
+returns : tie.Need-returns Inv-loop μ-loop
+returns c = search needs
+
+pub put-entries-spec : {M : Type 1} → statement M
+put-entries-spec =
+    tie.close
+    (tie.spec Inv-loop μ-loop loop-holds put-entry-requires add-i loop-less loop-again same-length returns)
