@@ -8,18 +8,18 @@ use native.Mathlib.Omega.{arith}
 use borrow.Author.Tests.{le-leb, lt-leb, leb-true, ltb-true, eq-eqb, ne-eqb}
 use lib.Dec.{eqb, leb, ltb}
 use lib.ListN.{length}
-use Rattle.checking.specs.Needs.{Fits, Falling, Rooted, Sized, check-diagram, check-entries}
+use Rattle.checking.specs.Needs.{Fits, Falling, Rooted, Sized}
 use Rattle.normal_form.specs.declared.answer.CheckFault.the-variants.{BadShape, BadTerm, HandleNotLower, EqualEntries, NotReachable, RuleApplies}
 use Rattle.normal_form.specs.declared.answer.Checked.{Checked}
 use Rattle.normal_form.specs.declared.answer.Checked.the-variants.{Never, Always, Sometimes, Refused}
-use Rattle.normal_form.specs.Check.{shape-kept, terms-kept, handles-lower, entries-differ, all-reachable, parts-ordered, fields-apart, no-rule-applies, root-verdict, check}
+use Rattle.normal_form.specs.Check.{shape-kept, terms-kept, handles-lower, entries-differ, all-reachable, parts-ordered, fields-apart, no-rule-applies, root-verdict, check-diagram, check-entries, check}
 use Rattle.normal_form.specs.Limits.{most-entries, table-limits}
 use Rattle.normal_form.specs.Table.{entry-length, entry-count, entry}
+use Rattle.normal_form.proofs.Kept.{lower-yes, lower-no}
 use Rattle.store.specs.Layout.{leaves}
 use Rattle.store.specs.Sound.{all-below}
 use Rattle.store.proofs.Tests.{first-passes, second-passes, all-below-says}
 use Rattle.checking.proofs.EntryWays.{fits-less}
-use Rattle.checking.proofs.HandleWays.{lower-yes, lower-no}
 
 -- ---- the shape
 module _ (t : List ℕ) (root : ℕ) where
@@ -78,7 +78,7 @@ module _ {t : List ℕ} {root count : ℕ} (r : Rooted t root count) {a : Bool} 
   differ : a ≡ entries-differ t (entry-count t)
   differ = ea ∙ ap (entries-differ t) (r .falling .whole)
 
-  pub says-equal : a ≡ false → Refused EqualEntries ≡ check-diagram t root
+  pub says-equal : a ≡ false → Refused EqualEntries ≡ check-diagram table-limits t root
   unfolding check-diagram
   says-equal d = rw (← differ, d)
 
@@ -86,16 +86,16 @@ module _ {t : List ℕ} {root count : ℕ} (r : Rooted t root count) {a : Bool} 
     reached : b ≡ all-reachable table-limits t root
     reached = eb ∙ ap (all-reachable table-limits t) eh
 
-    pub says-not-reachable : b ≡ false → Refused NotReachable ≡ check-diagram t root
+    pub says-not-reachable : b ≡ false → Refused NotReachable ≡ check-diagram table-limits t root
     unfolding check-diagram
     says-not-reachable d = rw (← differ, sa, ← reached, d)
 
     module _ (sb : b ≡ true) {c : Bool} (ec : c ≡ no-rule-applies table-limits t) where
-      pub says-rule : c ≡ false → Refused RuleApplies ≡ check-diagram t root
+      pub says-rule : c ≡ false → Refused RuleApplies ≡ check-diagram table-limits t root
       unfolding check-diagram
       says-rule d = rw (← differ, sa, ← reached, sb, ← ec, d)
 
-      pub says-verdict : c ≡ true → {v : Checked} → v ≡ root-verdict root → v ≡ check-diagram t root
+      pub says-verdict : c ≡ true → {v : Checked} → v ≡ root-verdict root → v ≡ check-diagram table-limits t root
       unfolding check-diagram
       says-verdict d ev = ev ∙ rw (← differ, sa, ← reached, sb, ← ec, d)
 
@@ -108,7 +108,7 @@ module _ {t : List ℕ} {root count : ℕ} (z : Sized t root count) where
     terms : a ≡ all-below (entry-count t) (λ i. terms-kept table-limits (entry t i))
     terms = ea ∙ ap (λ n. all-below n (λ i. terms-kept table-limits (entry t i))) (z .whole)
 
-    pub says-term : a ≡ false → Refused BadTerm ≡ check-entries t root
+    pub says-term : a ≡ false → Refused BadTerm ≡ check-entries table-limits t root
     unfolding check-entries
     says-term d = rw (← terms, d)
 
@@ -116,11 +116,11 @@ module _ {t : List ℕ} {root count : ℕ} (z : Sized t root count) where
       handles : b ≡ all-below (entry-count t) (λ i. handles-lower (entry t i) i)
       handles = eb ∙ ap (λ n. all-below n (λ i. handles-lower (entry t i) i)) (z .whole)
 
-      pub says-handle : b ≡ false → Refused HandleNotLower ≡ check-entries t root
+      pub says-handle : b ≡ false → Refused HandleNotLower ≡ check-entries table-limits t root
       unfolding check-entries
       says-handle d = rw (← terms, sa, ← handles, d)
 
-      pub says-diagram : b ≡ true → {v : Checked} → v ≡ check-diagram t root → v ≡ check-entries t root
+      pub says-diagram : b ≡ true → {v : Checked} → v ≡ check-diagram table-limits t root → v ≡ check-entries table-limits t root
       unfolding check-entries
       says-diagram d ev = ev ∙ rw (← terms, sa, ← handles, d)
 
@@ -147,6 +147,6 @@ module _ (t : List ℕ) (root : ℕ) {b : Bool} (eb : b ≡ shape-kept table-lim
   unfolding check
   says-shape d = rw (← eb, d)
 
-  pub says-entries : b ≡ true → {v : Checked} → v ≡ check-entries t root → v ≡ check table-limits t root
-  unfolding check check-entries check-diagram
+  pub says-entries : b ≡ true → {v : Checked} → v ≡ check-entries table-limits t root → v ≡ check table-limits t root
+  unfolding check
   says-entries s ev = ev ∙ rw (← eb, s)

@@ -1,16 +1,15 @@
 -- The handles of an entry: the yes handle decides if it is too high, and else the no handle.
 use Prim.Native.Nat.{ℕ, _+_, _≤_, _<_}
 use mathlib.Core.Path.{_≡_, ap, _∙_}
-use mathlib.Core.Bool.{true, false}
+use mathlib.Core.Bool.{false}
 use mathlib.Core.List.{List}
 use native.Mathlib.Omega.{arith}
-use borrow.Author.Tests.{lt-ltb, le-ltb, ltb-true}
+use borrow.Author.Tests.{lt-ltb, le-ltb}
 use lib.Dec.{ltb}
 use Rattle.normal_form.specs.declared.entry.Entry.{Entry}
 use Rattle.normal_form.specs.Check.{handles-lower}
 use Rattle.normal_form.specs.Table.{entry}
 use Rattle.store.specs.Layout.{leaves}
-use Rattle.store.proofs.Tests.{first-passes, second-passes}
 
 module _ (t : List ℕ) (i : ℕ) {e : Entry} (ee : e ≡ entry t i) {y : ℕ} (ey : y ≡ e .yes) where
   pub yes-high : i + leaves ≤ y → false ≡ handles-lower (entry t i) i
@@ -20,12 +19,3 @@ module _ (t : List ℕ) (i : ℕ) {e : Entry} (ee : e ≡ entry t i) {y : ℕ} (
   pub by-no : {n : ℕ} → n ≡ e .no → y < i + leaves → ltb n (i + leaves) ≡ handles-lower (entry t i) i
   unfolding handles-lower
   by-no en h = ap (λ (x : ℕ). ltb x (i + leaves)) en ∙ (rw (lt-ltb (e .yes) (i + leaves) (omega arith)) at (ap (λ (x : Entry). handles-lower x i) ee))
-
-module _ (e : Entry) (i : ℕ) (k : handles-lower e i ≡ true) where
-  pub lower-yes : e .yes < i + leaves
-  unfolding handles-lower
-  lower-yes = ltb-true _ _ (first-passes (ltb (e .yes) (i + leaves)) (ltb (e .no) (i + leaves)) k)
-
-  pub lower-no : e .no < i + leaves
-  unfolding handles-lower
-  lower-no = ltb-true _ _ (second-passes (ltb (e .yes) (i + leaves)) (ltb (e .no) (i + leaves)) k)

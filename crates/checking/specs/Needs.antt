@@ -1,15 +1,12 @@
 -- What the code relies on, and no claim.
 use Prim.Native.Nat.{ℕ, _+_, _-_, _*_, _/_, _%_, _≤_, _<_}
 use mathlib.Core.Path.{_≡_}
-use mathlib.Core.Bool.{Bool, false, cond, not, _||_}
+use mathlib.Core.Bool.{Bool, false, not, _||_}
 use mathlib.Core.List.{List}
 use lib.ListN.{length, getD, replicate}
 use Rattle.index.specs.Needs.{Chains}
-use Rattle.normal_form.specs.declared.answer.CheckFault.the-variants.{BadTerm, HandleNotLower, EqualEntries, NotReachable, RuleApplies}
-use Rattle.normal_form.specs.declared.answer.Checked.{Checked}
-use Rattle.normal_form.specs.declared.answer.Checked.the-variants.{Refused}
 use Rattle.normal_form.specs.declared.entry.Entry.{Entry}
-use Rattle.normal_form.specs.Check.{terms-kept, handles-lower, same-entry, entries-differ, all-reachable, no-rule-applies, root-verdict}
+use Rattle.normal_form.specs.Check.{same-entry}
 use Rattle.normal_form.specs.Limits.{most-entries, table-limits}
 use Rattle.normal_form.specs.Rules.{names}
 use Rattle.normal_form.specs.Reachable.{flag-count}
@@ -97,19 +94,3 @@ none-equal t k e = all-below k (λ j. not (same-entry (entry t j) e))
 -- whether field f is named at or below the i-th entry, by the flags of lower handles
 unfoldable pub named-at : ℕ → List ℕ → ℕ → List Bool → Bool
 named-at f t i flags = let e = entry t i in names f (asks e) || (getD flags (e .yes) false || getD flags (e .no) false)
-
--- ---- the check, in the parts that the code tests apart
-unfoldable pub check-diagram : List ℕ → ℕ → Checked
-check-diagram t root =
-    cond (entries-differ t (entry-count t))
-    (cond (all-reachable table-limits t root)
-    (cond (no-rule-applies table-limits t) (root-verdict root) (Refused RuleApplies))
-    (Refused NotReachable))
-    (Refused EqualEntries)
-
-unfoldable pub check-entries : List ℕ → ℕ → Checked
-check-entries t root =
-    let each = all-below (entry-count t) in
-    cond (each (λ i. terms-kept table-limits (entry t i)))
-    (cond (each (λ i. handles-lower (entry t i) i)) (check-diagram t root) (Refused HandleNotLower))
-    (Refused BadTerm)

@@ -1,6 +1,6 @@
 // The check, in the order of its numbers. No entry is read by a handle before every handle is known to be lower than its entry's own.
 ghost use mathlib.Core.Path.{_≡_};
-ghost use Rattle.checking.specs.Needs.{Falling, Rooted, Sized, check-entries, check-diagram};
+ghost use Rattle.checking.specs.Needs.{Falling, Rooted, Sized};
 ghost use Rattle.normal_form.specs.Check as rule;
 ghost use Rattle.normal_form.specs.Limits.{table-limits};
 use crate::differing::entries_differ;
@@ -56,7 +56,7 @@ fn root_verdict(root: u32) -> Checked
 // The conditions 84 to 86, of entries whose handles can be followed.
 fn check_diagram(t: &[u32], root: u32, count: usize) -> Checked
     requires { ⌜ Rooted (now t) root count ⌝ }
-    ensures { λ r. ⌜ r ≡ check-diagram (now (t .entry)) root ⌝ }
+    ensures { λ r. ⌜ r ≡ rule.check-diagram table-limits (now (t .entry)) root ⌝ }
 {
     if entries_differ(t, count) {
         if all_reachable(t, wide(root), count) {
@@ -73,7 +73,7 @@ fn check_diagram(t: &[u32], root: u32, count: usize) -> Checked
 // The conditions 82 to 86.
 fn check_entries(t: &[u32], root: u32, count: usize) -> Checked
     requires { ⌜ Sized (now t) root count ⌝ }
-    ensures { λ r. ⌜ r ≡ check-entries (now (t .entry)) root ⌝ }
+    ensures { λ r. ⌜ r ≡ rule.check-entries table-limits (now (t .entry)) root ⌝ }
 {
     if all_terms_kept(t, count) {
         if all_handles_lower(t, count) {

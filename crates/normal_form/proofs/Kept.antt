@@ -58,6 +58,16 @@ module _ (e : Entry) (k : terms-kept table-limits e ≡ true) where
     right-steps = right-kept .steps-in;
   }
 
+-- ---- 83
+module _ (e : Entry) (i : ℕ) (k : handles-lower e i ≡ true) where
+  pub lower-yes : e .yes < i + leaves
+  unfolding handles-lower
+  lower-yes = ltb-true (e .yes) (i + leaves) (first-passes (ltb (e .yes) (i + leaves)) (ltb (e .no) (i + leaves)) k)
+
+  pub lower-no : e .no < i + leaves
+  unfolding handles-lower
+  lower-no = ltb-true (e .no) (i + leaves) (second-passes (ltb (e .yes) (i + leaves)) (ltb (e .no) (i + leaves)) k)
+
 -- ---- 84
 pub same-entry-from : (d e : Entry) → d ≡ e → same-entry d e ≡ true
 unfolding same-entry
@@ -96,13 +106,9 @@ module _ (t : List ℕ) (root : ℕ) (p : Passes81To85 t root) where
   terms-of = all-below-says (λ i. terms-kept table-limits (entry t i)) (entry-count t) (p .passes-82)
 
   falls : Falling t (entry-count t)
-  unfolding handles-lower
   falls =
       let lower : (i : ℕ) → i < entry-count t → handles-lower (entry t i) i ≡ true = all-below-says (λ i. handles-lower (entry t i) i) (entry-count t) (p .passes-83) in
-      record {
-        yes-below = λ i h. ltb-true (entry t i .yes) (i + leaves) (first-passes (ltb (entry t i .yes) (i + leaves)) _ (lower i h));
-        no-below = λ i h. ltb-true (entry t i .no) (i + leaves) (second-passes (ltb (entry t i .yes) (i + leaves)) (ltb (entry t i .no) (i + leaves)) (lower i h));
-      }
+      record { yes-below = λ i h. lower-yes (entry t i) i (lower i h); no-below = λ i h. lower-no (entry t i) i (lower i h) }
 
   pub passes-kept : Kept t root
   unfolding all-reachable

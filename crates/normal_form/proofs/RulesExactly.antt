@@ -14,7 +14,7 @@ use Rattle.normal_form.specs.declared.answer.CheckFault.the-variants.{Ba
 use Rattle.normal_form.specs.declared.answer.Checked.{Checked}
 use Rattle.normal_form.specs.declared.answer.Checked.the-variants.{Refused}
 use Rattle.normal_form.specs.Accepted.{Passes81To85, Accepted}
-use Rattle.normal_form.specs.Check.{shape-kept, terms-kept, handles-lower, entries-differ, all-reachable, no-rule-applies, root-verdict, check}
+use Rattle.normal_form.specs.Check.{shape-kept, terms-kept, handles-lower, entries-differ, all-reachable, no-rule-applies, root-verdict, check-diagram, check-entries, check}
 use Rattle.normal_form.specs.Limits.{table-limits}
 use Rattle.normal_form.specs.Rules.{Applies}
 use Rattle.normal_form.specs.Table.{entry-count, entry}
@@ -39,11 +39,11 @@ verdict-accepts root f = picks-accepted (eqb root 0) _ _ f (λ e. let z : _≡_ 
 module _ (t : List ℕ) (root : ℕ) where
   -- what is left of the check after 85
   pub after-85 : Passes81To85 t root → check table-limits t root ≡ cond (no-rule-applies table-limits t) (root-verdict root) (Refused RuleApplies)
-  unfolding check
+  unfolding check-diagram check-entries check
   after-85 p = rw (p .passes-81, p .passes-82, p .passes-83, p .passes-84, p .passes-85) refl
 
   pub passed-all : Accepted t root → Passes81To85 t root × (no-rule-applies table-limits t ≡ true)
-  unfolding check
+  unfolding check-diagram check-entries check
   passed-all a =
       let each = all-below (entry-count t) in
       let a₁ = passes-and (shape-kept table-limits t root) _ BadShape a in

@@ -71,17 +71,23 @@ no-rule-applies limits t = all-below (entry-count t) (parts-ordered t) && fields
 abbrev pub root-verdict : ℕ → Checked
 root-verdict root = cond (eqb root 0) Never (cond (eqb root 1) Always Sometimes)
 
-unfoldable pub check : TableLimits → List ℕ → ℕ → Checked
-check limits t root =
-    let each = all-below (entry-count t) in
-    cond (shape-kept limits t root)
-    (cond (each (λ i. terms-kept limits (entry t i)))
-    (cond (each (λ i. handles-lower (entry t i) i))
-    (cond (entries-differ t (entry-count t))
+-- 84 to 86: entries whose handles are known to be lower
+unfoldable pub check-diagram : TableLimits → List ℕ → ℕ → Checked
+check-diagram limits t root =
+    cond (entries-differ t (entry-count t))
     (cond (all-reachable limits t root)
     (cond (no-rule-applies limits t) (root-verdict root) (Refused RuleApplies))
     (Refused NotReachable))
-    (Refused EqualEntries))
-    (Refused HandleNotLower))
-    (Refused BadTerm))
-    (Refused BadShape)
+    (Refused EqualEntries)
+
+-- 82 and 83, then those
+unfoldable pub check-entries : TableLimits → List ℕ → ℕ → Checked
+check-entries limits t root =
+    let each = all-below (entry-count t) in
+    cond (each (λ i. terms-kept limits (entry t i)))
+    (cond (each (λ i. handles-lower (entry t i) i)) (check-diagram limits t root) (Refused HandleNotLower))
+    (Refused BadTerm)
+
+-- 81, then those
+unfoldable pub check : TableLimits → List ℕ → ℕ → Checked
+check limits t root = cond (shape-kept limits t root) (check-entries limits t root) (Refused BadShape)
