@@ -278,6 +278,88 @@ static void null_stores(void)
     answer("null write back", sheet_write_back(NULL, 0, 0, NULL, 0), 22, 0);
 }
 
+/* Checks a table, entries of four words by WORDS, and compares the answer. */
+static void check(const char *call, const uint32_t *table, size_t length, uint32_t root, uint32_t number, uint32_t result)
+{
+    answer(call, sheet_check_normal_form(table, length, root), number, result);
+}
+
+/* Document 02 (vii). No entries, by NULL; words that are no entries; a root that there is not. */
+static void tables_of_any_shape(void)
+{
+    check("vii check never", NULL, 0, 0, 0, 0);
+    check("vii check always", NULL, 0, 1, 0, 1);
+    check("vii check no entries, root 2", NULL, 0, 2, 81, 0);
+    check("vii check three words", WORDS(3, 2, 1), 0, 81, 0);
+    check("vii check one entry, root 3", WORDS(3, 2, 1, 0), 3, 81, 0);
+}
+
+static void normal_forms(void)
+{
+    check("vii check 000's Example 29, rewritten", WORDS(67, 1, 1, 0, 66, 1, 2, 0), 3, 0, 2);
+    check("vii check 2 = 1 and 3 = 1", WORDS(3, 1, 1, 0, 2, 1, 2, 0), 3, 0, 2);
+    check("vii check 2 = 1 or 3 = 2", WORDS(3, 2, 1, 0, 2, 1, 1, 2), 3, 0, 2);
+    check("vii check not 2 = S(0), and 2 = S3(1)", WORDS(2, 97, 1, 0, 2, 32, 0, 2), 3, 0, 2);
+    check("vii check S(3) = 1 or 3 = 2", WORDS(3, 2, 1, 0, 35, 1, 1, 2), 3, 0, 2);
+}
+
+static void not_normal_forms(void)
+{
+    check("vii check rule 3", WORDS(2, 1, 1, 1), 2, 86, 0);
+    check("vii check rule 4", WORDS(2, 1, 1, 0, 2, 1, 2, 1), 3, 86, 0);
+    check("vii check rule 5", WORDS(2, 1, 1, 0, 2, 1, 1, 2), 3, 86, 0);
+    check("vii check rule 6", WORDS(2, 1, 1, 0, 3, 1, 2, 1), 3, 86, 0);
+    check("vii check rule 7", WORDS(2, 1, 1, 0, 3, 1, 1, 2), 3, 86, 0);
+    check("vii check rule 7, right field before left steps", WORDS(35, 1, 1, 0, 3, 2, 1, 2), 3, 86, 0);
+    check("vii check rule 8', 000's Example 29", WORDS(3, 2, 1, 0, 66, 1, 2, 0), 3, 86, 0);
+    check("vii check rule 8', below by yes", WORDS(4, 2, 1, 0, 3, 1, 2, 0, 2, 1, 3, 0), 4, 86, 0);
+    check("vii check rule 8', below by no", WORDS(4, 2, 1, 0, 3, 1, 1, 2, 2, 1, 3, 0), 4, 86, 0);
+    check("vii check rule 8', on the left", WORDS(2, 97, 1, 0, 2, 32, 2, 0), 3, 86, 0);
+}
+
+static void terms_of_tables(void)
+{
+    check("vii check 2 = S4096(1)", WORDS(2, 131073, 1, 0), 2, 82, 0);
+    check("vii check 17 = 1", WORDS(17, 1, 1, 0), 2, 82, 0);
+    check("vii check 1 = 2", WORDS(1, 2, 1, 0), 2, 82, 0);
+    check("vii check S(2) = S(1)", WORDS(34, 33, 1, 0), 2, 82, 0);
+    check("vii check S(1) = 0", WORDS(33, 0, 1, 0), 2, 82, 0);
+    check("vii check 2 = 2", WORDS(2, 2, 1, 0), 2, 82, 0);
+    check("vii check 2 = S4095(1)", WORDS(2, 131041, 1, 0), 2, 0, 2);
+    check("vii check 16 = S4095(15)", WORDS(16, 131055, 1, 0), 2, 0, 2);
+}
+
+static void handles_of_tables(void)
+{
+    check("vii check an entry's own handle", WORDS(2, 1, 2, 0), 2, 83, 0);
+    check("vii check the largest handle", WORDS(2, 1, 4294967295, 0), 2, 83, 0);
+    check("vii check 82 before 83", WORDS(2, 1, 4294967295, 0, 2, 2, 1, 0), 3, 82, 0);
+    check("vii check equal entries", WORDS(3, 2, 1, 0, 3, 2, 1, 0), 3, 84, 0);
+    check("vii check equal entries, root 2", WORDS(3, 2, 1, 0, 3, 2, 1, 0), 2, 84, 0);
+    check("vii check an entry not referred to", WORDS(3, 2, 1, 0, 2, 1, 1, 0), 3, 85, 0);
+    check("vii check an entry above the root", WORDS(3, 2, 1, 0, 2, 1, 2, 0), 2, 85, 0);
+    check("vii check an entry, root 1", WORDS(3, 2, 1, 0), 1, 85, 0);
+}
+
+/* One field against the numbers 0 to 4,095, the largest lowest: as many entries as there can be. Then one more. */
+static void largest_table(void)
+{
+    static uint32_t table[4097 * 4], before[4097 * 4];
+    for (uint32_t i = 0; i < 4097; i++) {
+        const uint32_t entry[] = {1, (4095 - i % 4096) * 32, 1, i == 0 ? 0 : i + 1};
+        memcpy(&table[4 * i], entry, sizeof(entry));
+    }
+    memcpy(before, table, sizeof(table));
+    check("vii check 4,096 entries", table, 4096 * 4, 4097, 0, 2);
+    check("vii check 4,097 entries", table, 4097 * 4, 4098, 81, 0);
+    compared++;
+    if (memcmp(table, before, sizeof(table)) != 0) {
+        printf("the table is not as it was");
+        differs();
+        printf("\n");
+    }
+}
+
 /* No words by NULL beside a store that is sound. */
 static void null_slices(void)
 {
@@ -305,6 +387,12 @@ int main(void)
     steps_in_a_store();
     null_stores();
     null_slices();
+    tables_of_any_shape();
+    normal_forms();
+    not_normal_forms();
+    terms_of_tables();
+    handles_of_tables();
+    largest_table();
     printf("%u compared, %u differences\n", compared, differences);
     return differences != 0;
 }

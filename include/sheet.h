@@ -1,4 +1,4 @@
-/* Sighting-sheet rules as decision diagrams: the ten operations, from C.
+/* Sighting-sheet rules as decision diagrams: the eleven operations, from C.
 
    Link libsheet.a, which `rt staticlib sheet` writes (x86-64 Linux). The library calls nothing but memcpy and memset, keeps nothing from one
    call to the next, and has no memory of its own: it reads and writes what is lent, and its stack. A call takes less than 65,536 bytes of
@@ -16,6 +16,10 @@
 
    A sheet is n counts of 16 bits, field 1 first.
 
+   A table of diagrams, which another tool has made and sheet_check_normal_form checks, is entries of four words: left term word, right term
+   word, yes handle, no handle. Handles are numbered as in a store: 0 is never, 1 is always, and the i-th entry, counted from 0, is handle
+   i + 2. There is no list of questions and no n beside a table: n is 16, and here alone steps go up to 4,095.
+
    Numbers. An answer's number is 0 if the call was accepted. A call is refused in just the conditions that stand at it, and the first of them,
    in the order in which they stand there, is the answer's number. Then the result is 0 and NOTHING IS CHANGED: when the call returns, every
    word that was lent is as it was.
@@ -30,9 +34,15 @@
      22  the store is not sound                         51  used plus the new entries exceeds the store's room
      23  the slice has the wrong length                 52  nothing satisfies the handle
                                                         53  writing back would take more than 256 rows
+     81  a table's words are no multiple of four, it has more than 4,096 entries, or the root is at or above entries + 2
+     82  a field of a table is above 16, steps above 4,095, or an equation not simplified
+     83  a handle of a table is not lower than its entry's own
+     84  two entries of a table are equal in all four words
+     85  an entry of a table is not reachable from the root
+     86  one of the rules of document 000's Definition 28 applies
 
-   What C must keep. The functions are proved for whatever words are lent: no content of a store, list, rule or sheet, no handle and no length
-   makes them read or write outside what was lent. Nothing proves what stands on C's side of a call, so the caller sees to it that
+   What C must keep. The functions are proved for whatever words are lent: no content of a store, list, rule, sheet or table, no handle and no
+   length makes them read or write outside what was lent. Nothing proves what stands on C's side of a call, so the caller sees to it that
      - a pointer is aligned for its type, and what lies there may be read, and written where the parameter is not const, for as many elements
        (not bytes) as the length beside it says;
      - what a call may write overlaps nothing else that is lent to the same call;
@@ -102,6 +112,15 @@ sheet_answer sheet_read(const uint32_t *store, size_t store_len, uint32_t a, con
 /* Writes a rule for a handle. The result is the number of its rows, four words each; the words after them are not changed.
    Refusals: 22, 41, 53, 23 (rule_len is below four words a row). */
 sheet_answer sheet_write_back(const uint32_t *store, size_t store_len, uint32_t a, uint32_t *rule, size_t rule_len);
+
+/* Checks that a table is one diagram, from its root down, in the normal form of document 000's Definition 28. Nothing is written. The result
+   is the root's verdict: 0 for the root 0, never; 1 for the root 1, always; else 2, as every path of an accepted diagram is followed by
+   some sheet.
+   Equations are compared by left field, right field, left steps, right steps. One of Definition 28's rules applies at an entry if its yes
+   and its no handle are the same (rule 3); if one of its parts begins with the same equation (4 and 5) or with one below it (6 and 7); or if
+   an equation anywhere in its yes part, no branches included, names its left field on either side and is above its own equation (8').
+   Refusals: 81, 82, 83, 84, 85, 86, each tested over the whole table before the next. With a leaf as root any entry is 85. */
+sheet_answer sheet_check_normal_form(const uint32_t *table, size_t table_len, uint32_t root);
 
 #ifdef __cplusplus
 }

@@ -12,7 +12,7 @@ use Rattle.checking.specs.Needs.{Fits, Falling, Rooted, Sized}
 use Rattle.normal_form.specs.declared.answer.CheckFault.the-variants.{BadShape, BadTerm, HandleNotLower, EqualEntries, NotReachable, RuleApplies}
 use Rattle.normal_form.specs.declared.answer.Checked.{Checked}
 use Rattle.normal_form.specs.declared.answer.Checked.the-variants.{Never, Always, Sometimes, Refused}
-use Rattle.normal_form.specs.Check.{shape-kept, terms-kept, handles-lower, entries-differ, all-reachable, parts-ordered, fields-apart, no-rule-applies, root-verdict, check-diagram, check-entries, check}
+use Rattle.normal_form.specs.Check.{shape-kept, terms-kept, handles-lower, entries-differ, all-reachable, parts-ordered, left-apart, no-rule-applies, root-verdict, check-diagram, check-entries, check}
 use Rattle.normal_form.specs.Limits.{most-entries, table-limits}
 use Rattle.normal_form.specs.Table.{entry-length, entry-count, entry}
 use Rattle.normal_form.proofs.Kept.{lower-yes, lower-no}
@@ -58,9 +58,9 @@ module _ {t : List ℕ} {count : ℕ} (k : Falling t count) {a : Bool} (ea : a �
   unfolding no-rule-applies
   not-ordered d = rw (← ordered, d)
 
-  pub by-fields : a ≡ true → {b : Bool} → b ≡ fields-apart table-limits t → b ≡ no-rule-applies table-limits t
+  pub by-lefts : a ≡ true → {b : Bool} → b ≡ all-below count (left-apart table-limits t) → b ≡ no-rule-applies table-limits t
   unfolding no-rule-applies
-  by-fields s eb = eb ∙ rw (← ordered, s)
+  by-lefts s eb = eb ∙ ap (λ n. all-below n (left-apart table-limits t)) (k .whole) ∙ rw (← ordered, s)
 
 -- ---- the root
 module _ (root : ℕ) where

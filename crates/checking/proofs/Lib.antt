@@ -5,5 +5,6 @@ pub mod HandleWays
 pub mod DifferWays
 pub mod MarkWays
 pub mod OrderWays
+pub mod FieldSets
 pub mod NameWays
 pub mod CheckWays

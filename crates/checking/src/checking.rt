@@ -8,7 +8,7 @@ use crate::entries::CAPACITY;
 use crate::entries::ENTRY_LENGTH;
 use crate::handles::all_handles_lower;
 use crate::marking::all_reachable;
-use crate::naming::fields_apart;
+use crate::naming::lefts_apart;
 use crate::ordering::all_ordered;
 use crate::questions::all_terms_kept;
 use normal_form::CheckFault;
@@ -35,7 +35,7 @@ fn no_rule_applies(t: &[u32], count: usize) -> bool
     ensures { λ r. ⌜ r ≡ rule.no-rule-applies table-limits (now (t .entry)) ⌝ }
 {
     if all_ordered(t, count) {
-        return fields_apart(t, count);
+        return lefts_apart(t, count);
     }
     false
 }

@@ -7,5 +7,6 @@ mod marking;
 mod naming;
 mod ordering;
 mod questions;
+mod sets;
 
 pub use checking::check_normal_form;

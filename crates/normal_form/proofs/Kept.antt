@@ -14,7 +14,6 @@ use Rattle.store.specs.Sound.{all-below}
 use Rattle.store.proofs.Tests.{passes, first-passes, second-passes, all-below-says}
 use Rattle.terms.specs.declared.term.Equation.{Equation}
 use Rattle.terms.specs.Form.{is-simplified}
-use Rattle.terms.specs.Limits.{most-fields}
 use Rattle.terms.specs.Words.{allows}
 use Rattle.terms.proofs.SimplifyForm.{is-simplified-says}
 use Rattle.terms.proofs.TermKept.{TermKept, allows-says}
@@ -32,7 +31,6 @@ pub record Kept (t : List ℕ) (root : ℕ) : Type 0 where
   pub few : entry-count t ≤ most-entries
   pub root-in : root < entry-count t + leaves
   pub asked : (i : ℕ) → i < entry-count t → Asked (asks (entry t i))
-  pub left-in : (i : ℕ) → i < entry-count t → asks (entry t i) .left .field .0 ≤ most-fields
   pub falling : Falling t (entry-count t)
   pub one-entry : (i j : ℕ) → i < entry-count t → j < entry-count t → entry t i ≡ entry t j → i ≡ j
   pub reached : (i : ℕ) → i < entry-count t → Reaches t root (i + leaves)
@@ -116,7 +114,6 @@ module _ (t : List ℕ) (root : ℕ) (p : Passes81To85 t root) where
     few = few-entries;
     root-in = root-below;
     asked = λ i h. asked-from (entry t i) (terms-of i h);
-    left-in = λ i h. left-kept (entry t i) (terms-of i h) .field-in;
     falling = falls;
     one-entry = entry-alike t (entry-count t) (p .passes-84);
     reached = λ i h. marks-exact table-limits falls root root-below few-entries (i + leaves) .0

@@ -24,10 +24,11 @@ Marked marks g = getD marks g false ≡ true
 abbrev PartsMarked : List ℕ → List Bool → ℕ → Type 0
 PartsMarked t marks i = Marked marks (entry t i .yes) × Marked marks (entry t i .no)
 
-pub none-marked : (n g : ℕ) → getD (replicate n false) g false ≡ false
-none-marked zero g = refl
-none-marked (suc n) zero = refl
-none-marked (suc n) (suc g) = none-marked n g
+-- every element of a list of one value is that value
+pub all-alike : {A : Type 0} (x : A) (n g : ℕ) → getD (replicate n x) g x ≡ x
+all-alike x zero g = refl
+all-alike x (suc n) zero = refl
+all-alike x (suc n) (suc g) = all-alike x n g
 
 -- all that is marked is reached
 abbrev OnlyReached : List ℕ → ℕ → List Bool → Type 0
@@ -112,7 +113,7 @@ module _ (limits : TableLimits) {t : List ℕ} (f : Falling t (entry-count t)) (
       pass-down f root (entry-count t) (set none root true) (omega arith) (record {
         room = simp (length-set, length-replicate) (omega arith);
         root-marked = getD-set-same none root true false (simp length-replicate (omega arith));
-        only-reached = still-reached none root itself (λ g e. absurd (false≢true (sym (none-marked (flag-count limits) g) ∙ e)));
+        only-reached = still-reached none root itself (λ g e. absurd (false≢true (sym (all-alike false (flag-count limits) g) ∙ e)));
         closed = λ i a c _. absurd (omega arith);
       })
 

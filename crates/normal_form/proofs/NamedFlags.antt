@@ -19,21 +19,21 @@ use Rattle.normal_form.specs.Rules.{names, Names, SomeAsks}
 use Rattle.normal_form.specs.Table.{entry-count, entry, asks}
 use Rattle.normal_form.specs.Tree.{tree}
 use Rattle.normal_form.proofs.ByHandles.{Falling, by-handles, tree-leaf, tree-entry}
-use Rattle.normal_form.proofs.Marks.{none-marked}
+use Rattle.normal_form.proofs.Marks.{all-alike}
 
 either-exact : {A B : Type 0} {a b : Bool} → (a ≡ true) ↔ A → (b ≡ true) ↔ B → ((a || b) ≡ true) ↔ (A ⊎ B)
 either-exact {a = true} p q = (λ _. inl (p .0 refl), λ _. refl)
 either-exact {a = false} p q = (λ e. inr (q .0 e), ⊎-elim (λ x. absurd (false≢true (p .1 x))) (q .1))
 
+pub flags-length : (limits : TableLimits) (f : ℕ) (t : List ℕ) (k : ℕ) → length (named limits f t k) ≡ flag-count limits
+unfolding named
+flags-length limits f t zero = length-replicate (flag-count limits) false
+flags-length limits f t (suc k) = simp length-set (flags-length limits f t k)
+
 module _ (limits : TableLimits) {t : List ℕ} (falls : Falling t (entry-count t)) (f : ℕ) (few : entry-count t ≤ limits .entries) where
   -- the flag of a handle after the first k entries
   abbrev flag : ℕ → ℕ → Bool
   flag k h = getD (named limits f t k) h false
-
-  flags-length : (k : ℕ) → length (named limits f t k) ≡ flag-count limits
-  unfolding named
-  flags-length zero = length-replicate (flag-count limits) false
-  flags-length (suc k) = simp length-set (flags-length k)
 
   -- the entries from the k-th on don't change the flags of the handles lower than theirs
   flag-stays : (k h m : ℕ) → h < k + leaves → k ≤ m → flag m h ≡ flag k h
@@ -46,7 +46,7 @@ module _ (limits : TableLimits) {t : List ℕ} (falls : Falling t (entry-count t
 
   flag-leaf : (h : ℕ) → h < leaves → flag (entry-count t) h ≡ false
   unfolding named
-  flag-leaf h l = flag-stays 0 h (entry-count t) (omega arith) (omega arith) ∙ none-marked (flag-count limits) h
+  flag-leaf h l = flag-stays 0 h (entry-count t) (omega arith) (omega arith) ∙ all-alike false (flag-count limits) h
 
   flag-entry : (i : ℕ) → i < entry-count t
       → flag (entry-count t) (i + leaves) ≡ (names f (asks (entry t i)) || (flag (entry-count t) (entry t i .yes) || flag (entry-count t) (entry t i .no)))
@@ -54,7 +54,7 @@ module _ (limits : TableLimits) {t : List ℕ} (falls : Falling t (entry-count t
   flag-entry i h =
       let m = entry-count t in
       flag-stays (suc i) (i + leaves) m (omega arith) h
-      ∙ getD-set-same (named limits f t i) (i + leaves) _ false (omega (arith, flags-length i))
+      ∙ getD-set-same (named limits f t i) (i + leaves) _ false (omega (arith, flags-length limits f t i))
       ∙ rw (flag-stays i (entry t i .yes) m (falls .yes-below i h) (omega arith), flag-stays i (entry t i .no) m (falls .no-below i h) (omega arith))
 
   -- The flags after all entries are exact.

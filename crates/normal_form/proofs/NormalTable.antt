@@ -4,7 +4,7 @@
 use Prim.Native.Nat.{ℕ, zero, suc, _+_, _-_, _<_}
 use mathlib.Core.Path.{_≡_, refl, sym, ap, _∙_}
 use mathlib.Core.Bool.{Bool, true, false, true≢false, false≢true, not, _&&_, and-false}
-use mathlib.Core.Logic.{_≢_, _⊎_, inl, inr}
+use mathlib.Core.Logic.{_≢_, _↔_, _⊎_, inl, inr}
 use mathlib.Core.List.{List}
 use native.Mathlib.Omega.{arith}
 use native.Mathlib.Decide.{ℕ-discrete}
@@ -21,9 +21,7 @@ use Rattle.terms.specs.Words.{field}
 use Rattle.terms.proofs.Cases.{by-test}
 use Rattle.terms.proofs.Numbers.{equations-equal}
 use Rattle.terms.proofs.QuestionOrder.{fields-first-strict-total}
-use Rattle.terms.proofs.SimplifyForm.{smaller-right}
-use Rattle.normal_form.specs.Check.{asks-after, parts-ordered, left-apart, fields-apart, no-rule-applies}
-use Rattle.terms.specs.Limits.{most-fields}
+use Rattle.normal_form.specs.Check.{asks-after, parts-ordered, left-apart, no-rule-applies}
 use Rattle.normal_form.specs.Limits.{table-limits}
 use Rattle.normal_form.specs.Named.{named}
 use Rattle.normal_form.specs.Reachable.{Reaches, itself, by-yes, by-no}
@@ -126,42 +124,30 @@ module _ {t : List ℕ} {root : ℕ} (k : Kept t root) where
     ]
 
     -- ---- rule 8'
-    left-some : g .left .field .0 ≢ 0
-    left-some = omega (arith, smaller-right g (k .asked i h .form))
-
     -- the left field is named in the yes part exactly if its flag is set
-    unnamed-entry : left-apart table-limits t (g .left .field .0) i ≡ true → Each (Unnamed g) y
+    abbrev flag : Bool
+    flag = getD (named table-limits (g .left .field .0) t m) (entry t i .yes) false
+
+    flag-exact : (flag ≡ true) ↔ SomeAsks (Names (g .left .field)) y
+    flag-exact = named-exact table-limits (k .falling) (g .left .field .0) (k .few) (entry t i .yes) (yes-in i h)
+
+    unnamed-entry : left-apart table-limits t i ≡ true → Each (Unnamed g) y
     unfolding left-apart
-    unnamed-entry e =
-        let u = g .left .field .0 in
-        let flag = getD (named table-limits u t m) (entry t i .yes) false in
-        none-each (Names (field u)) y (λ s. false≢true (sym (not-true (eqb u u && flag) e)
-        ∙ simp (eq-eqb u u refl, named-exact table-limits (k .falling) u (k .few) (entry t i .yes) (yes-in i h) .1 s)))
+    unnamed-entry e = none-each (Names (g .left .field)) y (λ s. false≢true (sym (not-true flag e) ∙ flag-exact .1 s))
 
     -- it is named by a question that is after the entry's
-    apart-fails : (f : ℕ) → left-apart table-limits t f i ≡ false → Each (Precedes g) y → RuleAt g y n
+    apart-fails : left-apart table-limits t i ≡ false → Each (Precedes g) y → RuleAt g y n
     unfolding left-apart
-    apart-fails f e after =
-        let flag = getD (named table-limits f t m) (entry t i .yes) false in
-        let both : (eqb (g .left .field .0) f && flag) ≡ true = not-false (eqb (g .left .field .0) f && flag) e in
-        let same : g .left .field .0 ≡ f = eqb-true (g .left .field .0) f (first-passes (eqb (g .left .field .0) f) flag both) in
-        let some : SomeAsks (Names (field f)) y = named-exact table-limits (k .falling) f (k .few) (entry t i .yes) (yes-in i h) .0 (second-passes (eqb (g .left .field .0) f) flag both) in
-        rule-8 (some-and (Precedes g) (Names (g .left .field)) y after (rw (← same) at some))
+    apart-fails e after = rule-8 (some-and (Precedes g) (Names (g .left .field)) y after (flag-exact .0 (not-false flag e)))
 
   -- ---- the whole table
   table-sorted : all-below m (parts-ordered t) ≡ true → (h : ℕ) → h < m + leaves → Sorted (tree t h)
   table-sorted e = by-handles (k .falling) (λ h. Sorted (tree t h)) (λ h l. rw (tree-leaf t h l) tt)
       (λ i h. sorted-entry i h (all-below-says (parts-ordered t) m e i h))
 
-  table-apart : fields-apart table-limits t ≡ true → (h : ℕ) → h < m + leaves → Apart (tree t h)
-  unfolding fields-apart
+  table-apart : all-below m (left-apart table-limits t) ≡ true → (h : ℕ) → h < m + leaves → Apart (tree t h)
   table-apart e = by-handles (k .falling) (λ h. Apart (tree t h)) (λ h l. rw (tree-leaf t h l) tt)
-      (λ i h y n.
-      let u = asks (entry t i) .left .field .0 in
-      let back : suc (u - 1) ≡ u = omega (arith, left-some i h) in
-      let each : all-below m (left-apart table-limits t (suc (u - 1))) ≡ true =
-      all-below-says (λ f. all-below m (left-apart table-limits t (suc f))) most-fields e (u - 1) (omega (arith, left-some i h, k .left-in i h)) in
-      rw (tree-entry (k .falling) i h) (unnamed-entry i h (rw back at (all-below-says (left-apart table-limits t (suc (u - 1))) m each i h)), y, n))
+      (λ i h y n. rw (tree-entry (k .falling) i h) (unnamed-entry i h (all-below-says (left-apart table-limits t) m e i h), y, n))
 
   -- a rule that applies at an entry applies in the root's diagram, since the entry is reached
   reached-in : (h : ℕ) → Reaches t root h → h < m + leaves
@@ -177,28 +163,33 @@ module _ {t : List ℕ} {root : ℕ} (k : Kept t root) where
   rule-applies : (i : ℕ) (h : i < m) → RuleAt (asks (entry t i)) (tree t (entry t i .yes)) (tree t (entry t i .no)) → Applies (tree t root)
   rule-applies i h r = applies-above (i + leaves) (k .reached i h) (rw (tree-entry (k .falling) i h) (inl r))
 
-  -- the question of a yes part are after the entry's
+  -- the questions of a yes part are after the entry's
   yes-after : all-below m (parts-ordered t) ≡ true → (i : ℕ) → i < m → Each (Precedes (asks (entry t i))) (tree t (entry t i .yes))
   yes-after e i h = let s : Sorted (ite (asks (entry t i)) (tree t (entry t i .yes)) (tree t (entry t i .no))) = rw (tree-entry (k .falling) i h) at (table-sorted e (i + leaves) (omega arith)) in s .1
 
   -- If a test of 86 fails, a rule applies; if they all pass, none does.
+  abbrev ordered : Bool
+  ordered = all-below m (parts-ordered t)
+
+  abbrev apart : Bool
+  apart = all-below m (left-apart table-limits t)
+
   pub fails-applies : no-rule-applies table-limits t ≡ false → Applies (tree t root)
-  unfolding no-rule-applies fields-apart
-  fails-applies e = elim (first-or-second (all-below m (parts-ordered t)) (fields-apart table-limits t) e) [
+  unfolding no-rule-applies
+  fails-applies e = elim (first-or-second ordered apart e) [
     | inl b ↦ let r = some-fails (parts-ordered t) m b in rule-applies (r .0) (r .1) (parts-fail (r .0) (r .1) (r .2))
     | inr b ↦
-        let f = some-fails (λ f. all-below m (left-apart table-limits t (suc f))) most-fields (b .1) in
-        let r = some-fails (left-apart table-limits t (suc (f .0))) m (f .2) in
-        rule-applies (r .0) (r .1) (apart-fails (r .0) (r .1) (suc (f .0)) (r .2) (yes-after (b .0) (r .0) (r .1)))
+        let r = some-fails (left-apart table-limits t) m (b .1) in
+        rule-applies (r .0) (r .1) (apart-fails (r .0) (r .1) (r .2) (yes-after (b .0) (r .0) (r .1)))
   ]
 
   pub passes-sorted : no-rule-applies table-limits t ≡ true → Sorted (tree t root)
   unfolding no-rule-applies
-  passes-sorted e = table-sorted (first-passes (all-below m (parts-ordered t)) (fields-apart table-limits t) e) root (k .root-in)
+  passes-sorted e = table-sorted (first-passes ordered apart e) root (k .root-in)
 
   pub passes-apart : no-rule-applies table-limits t ≡ true → Apart (tree t root)
   unfolding no-rule-applies
-  passes-apart e = table-apart (second-passes (all-below m (parts-ordered t)) (fields-apart table-limits t) e) root (k .root-in)
+  passes-apart e = table-apart (second-passes ordered apart e) root (k .root-in)
 
   pub passes-none : no-rule-applies table-limits t ≡ true → Applies (tree t root) → ⊥
   passes-none e = no-rule (tree t root) (passes-sorted e) (passes-apart e)

@@ -1,5 +1,5 @@
 -- The check of a table and a root (document 02, vii): "Accept a table and root exactly if no error below is met." "Each condition is tested over the whole table before the next."
-use Prim.Native.Nat.{ℕ, suc, _+_, _-_, _%_}
+use Prim.Native.Nat.{ℕ, _+_, _-_, _%_}
 use mathlib.Core.Bool.{Bool, true, false, cond, not, _&&_}
 use mathlib.Core.List.{List}
 use lib.Dec.{eqb, leb, ltb}
@@ -53,19 +53,15 @@ parts-ordered t i =
     let e = entry t i in
     not (eqb (e .yes) (e .no)) && asks-after t (asks e) (e .yes) && asks-after t (asks e) (e .no)
 
--- Rule 8' at the i-th entry, if its left field is f: the field is not named in its yes part. That an equation which names it is after the entry's needs no test: if rules
--- 4 to 7 apply nowhere, every equation of a part is (theorem `rules-exactly`).
-unfoldable pub left-apart : TableLimits → List ℕ → ℕ → ℕ → Bool
-left-apart limits t f i =
+-- Rule 8' at the i-th entry: its left field is not named in its yes part. That an equation which names it is after the entry's needs no test: if rules 4 to 7 apply nowhere,
+-- every equation of a part is (theorem `rules-exactly`).
+unfoldable pub left-apart : TableLimits → List ℕ → ℕ → Bool
+left-apart limits t i =
     let e = entry t i in
-    not (eqb (asks e .left .field .0) f && getD (named limits f t (entry-count t)) (e .yes) false)
-
--- for each field from 1 to 16, over the whole table
-unfoldable pub fields-apart : TableLimits → List ℕ → Bool
-fields-apart limits t = all-below (limits .terms .field .0) (λ f. all-below (entry-count t) (left-apart limits t (suc f)))
+    not (getD (named limits (asks e .left .field .0) t (entry-count t)) (e .yes) false)
 
 unfoldable pub no-rule-applies : TableLimits → List ℕ → Bool
-no-rule-applies limits t = all-below (entry-count t) (parts-ordered t) && fields-apart limits t
+no-rule-applies limits t = all-below (entry-count t) (parts-ordered t) && all-below (entry-count t) (left-apart limits t)
 
 -- "On acceptance the result is the root's verdict." (theorem `check-verdict`)
 abbrev pub root-verdict : ℕ → Checked

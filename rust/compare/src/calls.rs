@@ -2,7 +2,7 @@
 
 use independent::{Answer, Operations};
 
-/// A call on a store. Slices beside the store are lent as they stand here.
+/// A call on a store, or on a table of diagrams, which needs none. Slices beside the store are lent as they stand here.
 #[derive(Clone, Debug)]
 pub enum Call {
     Open { n: u32, list: Vec<u32> },
@@ -14,6 +14,7 @@ pub enum Call {
     Example { handle: u32, sheet: Vec<u16> },
     Read { handle: u32, sheet: Vec<u16> },
     WriteBack { handle: u32, rule: Vec<u32> },
+    CheckNormalForm { table: Vec<u32>, root: u32 },
 }
 
 /// The answer, and every lent word after the call.
@@ -72,6 +73,7 @@ impl Call {
             Call::Example { .. } => "example",
             Call::Read { .. } => "read",
             Call::WriteBack { .. } => "write back",
+            Call::CheckNormalForm { .. } => "check normal form",
         }
     }
 
@@ -79,6 +81,7 @@ impl Call {
     pub fn make(&self, operations: &dyn Operations, store: &[u32]) -> Outcome {
         let words: &[u32] = match self {
             Call::Open { list: words, .. } | Call::Build { rule: words } | Call::WriteBack { rule: words, .. } => words,
+            Call::CheckNormalForm { table: words, .. } => words,
             _ => &[],
         };
         let sheet: &[u16] = match self {
@@ -98,6 +101,7 @@ impl Call {
             Call::Example { handle, .. } => operations.example(store.slice(), handle, sheet.slice()),
             Call::Read { handle, .. } => operations.read(store.slice(), handle, sheet.slice()),
             Call::WriteBack { handle, .. } => operations.write_back(store.slice(), handle, words.slice()),
+            Call::CheckNormalForm { root, .. } => operations.check_normal_form(words.slice(), root),
         };
         let kept_within = store.kept_within() && words.kept_within() && sheet.kept_within();
         Outcome { answer, store: store.back(), sheet: sheet.back(), words: words.back(), kept_within }

@@ -2,14 +2,19 @@
 
 use std::collections::BTreeMap;
 
-use independent::{largest_count, refusal, Fast, Operations, Plain, Question, SimplifyAnswer, Term};
-use independent::{MOST_ENTRIES, MOST_FIELDS, MOST_QUESTIONS};
+use independent::{largest_count, leaves, refusal, Answer, Fast, Operations, Paths, Plain, Question};
+use independent::{SimplifyAnswer, Term, MOST_ENTRIES, MOST_FIELDS, MOST_QUESTIONS};
 
 use crate::calls::{Call, Outcome};
 use crate::library::Library;
 
 /// Differences are printed up to this many.
 const MOST_PRINTED: u64 = 10;
+
+/// Diagrams with more paths aren't unfolded to trees.
+const MOST_PATHS: u64 = 200;
+/// All sheets are tried on the paths of a diagram if they aren't more.
+const MOST_SHEETS: u64 = 1_000;
 
 /// What was called, compared and met so far.
 pub struct Comparison {
@@ -19,6 +24,7 @@ pub struct Comparison {
     numbers: BTreeMap<&'static str, BTreeMap<u32, u64>>,
     compared_by_bounds: u64,
     compared_by_counting: u64,
+    compared_by_trees: u64,
     /// Other facts that were tested, by name.
     tested: BTreeMap<&'static str, u64>,
     differing: u64,
@@ -32,6 +38,7 @@ impl Default for Comparison {
             numbers: BTreeMap::new(),
             compared_by_bounds: 0,
             compared_by_counting: 0,
+            compared_by_trees: 0,
             tested: BTreeMap::new(),
             differing: 0,
         }
@@ -56,6 +63,10 @@ impl Comparison {
             self.compared_by_counting += 1;
             others.push(("trying all counts", call.make(&self.by_counting, store)));
         }
+        if affordable.trees {
+            self.compared_by_trees += 1;
+            others.push(("the check on trees", call.make(&self.by_bounds, store)));
+        }
         for (by, expected) in others {
             if outcome != expected {
                 let calls = format!("call {call:?}\n  store {store:?}");
@@ -73,6 +84,32 @@ impl Comparison {
         let expected = [Fast.simplify(a, b), self.by_bounds.simplify(a, b)];
         if expected != [answer; 2] {
             self.differ(&format!("simplify {a} {b}: {answer:?}, the others {expected:?}"));
+        }
+        answer
+    }
+
+    /// Checks a table of diagrams with the library and the other implementations. If it is accepted and has few paths, looks for a sheet
+    /// on every path: by difference bounds, and by trying all counts if these are few.
+    pub fn check_normal_form(&mut self, table: &[u32], root: u32) -> Answer {
+        let differing = self.differing;
+        let answer = self.call(&Call::CheckNormalForm { table: table.to_vec(), root }, &[]).answer;
+        // What the implementations differ on has been reported, and need not be a diagram.
+        if answer.number != 0 || self.differing > differing || leaves(table, root) > MOST_PATHS {
+            return answer;
+        }
+        let paths = Paths::new(table, root);
+        let describe = || format!("root {root} of {table:?}, answered with {answer:?}");
+        let (dead, verdict) = (paths.dead_by_bounds(), paths.verdict_by_bounds());
+        self.test("the paths of an accepted diagram, by difference bounds", dead.is_none(), || {
+            format!("{dead:?}, {}", describe())
+        });
+        self.test("the verdict of an accepted diagram, by difference bounds", verdict == answer.result, describe);
+        if paths.sheets() <= MOST_SHEETS {
+            let (dead, verdict) = (paths.dead_by_counting(), paths.verdict_by_counting());
+            self.test("the paths of an accepted diagram, trying all counts", dead.is_none(), || {
+                format!("{dead:?}, {}", describe())
+            });
+            self.test("the verdict of an accepted diagram, trying all counts", verdict == answer.result, describe);
         }
         answer
     }
@@ -103,6 +140,7 @@ impl Comparison {
         println!("  all of them with the fast implementation");
         println!("  {} also with the plain one by difference bounds", self.compared_by_bounds);
         println!("  {} also with the plain one that tries all counts", self.compared_by_counting);
+        println!("  {} also with the plain one on trees", self.compared_by_trees);
         println!("tested besides:");
         for (name, times) in &self.tested {
             println!("  {name}: {times}");
@@ -110,7 +148,7 @@ impl Comparison {
         println!("how often each operation gave each number (0 is acceptance):");
         for (operation, numbers) in &self.numbers {
             let line: Vec<String> = numbers.iter().map(|(number, times)| format!("{number}: {times}")).collect();
-            println!("  {operation:<10}  {}", line.join("  "));
+            println!("  {operation:<17}  {}", line.join("  "));
         }
         let mut unmet = 0;
         for (operation, possible) in NUMBERS {
@@ -136,8 +174,8 @@ impl Comparison {
     }
 }
 
-/// The numbers that each operation can give, by document 01.
-const NUMBERS: [(&str, &[u32]); 10] = [
+/// The numbers that each operation can give, by documents 01 and 02.
+const NUMBERS: [(&str, &[u32]); 11] = [
     ("simplify", &[0, 35]),
     ("open", &[0, 11, 12, 13, 14, 15, 16, 21]),
     ("build", &[0, 22, 31, 32, 33, 34, 35, 36, 51]),
@@ -148,6 +186,7 @@ const NUMBERS: [(&str, &[u32]); 10] = [
     ("example", &[0, 22, 23, 41, 52]),
     ("read", &[0, 22, 23, 41]),
     ("write back", &[0, 22, 23, 41, 53]),
+    ("check normal form", &[0, 81, 82, 83, 84, 85, 86]),
 ];
 
 /// The questions of list words.
@@ -183,25 +222,40 @@ pub fn counting_is_affordable(n: u32, questions: &[Question]) -> bool {
     (largest_count(n, questions) + 1).checked_pow(n).is_some_and(|sheets| sheets <= 20_000)
 }
 
+#[derive(Default)]
 struct Affordable {
     bounds: bool,
     counting: bool,
+    /// The check of another desk's diagrams, which needs no possible answers but trees.
+    trees: bool,
 }
 
-/// Which plain implementations can make a call in some milliseconds. They compare every two entries of a store, and all but open,
-/// read and write back look at every possible combination of answers.
+impl Affordable {
+    /// Both ways to find possible answers.
+    const BOTH: Affordable = Affordable { bounds: true, counting: true, trees: false };
+}
+
+/// Which plain implementations can make a call in some milliseconds. They compare every two entries of a store or table. All but open,
+/// read and write back look at every possible combination of answers, and the check of another desk's diagrams at every path.
 fn affordable(call: &Call, store: &[u32]) -> Affordable {
-    if matches!(call, Call::Open { .. }) {
-        return Affordable { bounds: true, counting: true };
+    match call {
+        Call::Open { .. } => return Affordable::BOTH,
+        Call::CheckNormalForm { table, root } => {
+            let trees = table.len() <= 4 * 300 && leaves(table, *root) <= MOST_PATHS;
+            return Affordable { trees, ..Affordable::default() };
+        }
+        _ => {}
     }
     if store.get(2).is_some_and(|used| *used > 500 && *used <= MOST_ENTRIES as u32) {
-        return Affordable { bounds: false, counting: false };
+        return Affordable::default();
     }
     match survey_of(store) {
         // Such a store isn't sound, which they find at once.
-        None => Affordable { bounds: true, counting: true },
-        Some((n, questions)) => {
-            Affordable { bounds: bounds_are_affordable(n, &questions), counting: counting_is_affordable(n, &questions) }
-        }
+        None => Affordable::BOTH,
+        Some((n, questions)) => Affordable {
+            bounds: bounds_are_affordable(n, &questions),
+            counting: counting_is_affordable(n, &questions),
+            trees: false,
+        },
     }
 }

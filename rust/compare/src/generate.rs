@@ -56,7 +56,7 @@ pub const WIDE: Size = Size { fields: (9, MOST_FIELDS), gaps: Gaps::up_to(MOST_S
 pub const SIZES: [Size; 5] = [SMALL, MIDDLE, FAR, TALL, WIDE];
 
 /// A question in its simplified form: the larger field left, steps on one side only, none left against zero.
-fn question(random: &mut Random, n: u32, gaps: Gaps) -> [u32; 2] {
+pub fn question(random: &mut Random, n: u32, gaps: Gaps) -> [u32; 2] {
     let left = random.between(1, n);
     let right = random.below(left);
     let steps = gaps.steps(random);

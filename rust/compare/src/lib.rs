@@ -5,4 +5,5 @@ pub mod comparison;
 pub mod generate;
 pub mod ledger;
 pub mod library;
+pub mod normal_forms;
 pub mod random;

@@ -3,7 +3,7 @@
 use independent::{Answer, Operations, SimplifyAnswer};
 use sheet::words;
 
-/// The ten operations of libsheet.a.
+/// The eleven operations of libsheet.a.
 pub struct Library;
 
 fn answer(answer: words::Answer) -> Answer {
@@ -50,5 +50,9 @@ impl Operations for Library {
 
     fn write_back(&self, store: &[u32], a: u32, rule: &mut [u32]) -> Answer {
         answer(words::write_back(store, a, rule))
+    }
+
+    fn check_normal_form(&self, table: &[u32], root: u32) -> Answer {
+        answer(words::check_normal_form(table, root))
     }
 }

@@ -3,7 +3,7 @@
 use std::collections::HashMap;
 
 use crate::refusal::*;
-use crate::{Answer, Operations, SimplifyAnswer, Term};
+use crate::{normal_form, Answer, Operations, SimplifyAnswer, Term};
 use crate::{ALWAYS, FIRST_ENTRY, HEADING, MOST_ENTRIES, MOST_FIELDS, MOST_QUESTIONS, MOST_ROWS, NEVER};
 
 /// The operations. They keep nothing between calls: all that is known stands in the lent store.
@@ -788,5 +788,9 @@ impl Operations for Fast {
 
     fn write_back(&self, store: &[u32], a: u32, rule: &mut [u32]) -> Answer {
         write_back(store, a, rule).into()
+    }
+
+    fn check_normal_form(&self, table: &[u32], root: u32) -> Answer {
+        normal_form::check(table, root).into()
     }
 }

@@ -1,4 +1,4 @@
-//! The ten operations, written a second time from documents 01 and 02 alone.
+//! The eleven operations, written a second time from documents 01 and 02 alone, and from document 000 where these cite it.
 //!
 //! The proved library keeps the facts of a path as classes of fields with offsets. Nothing here does:
 //!
@@ -7,22 +7,31 @@
 //!   all counts up to a bound, or by bounds on the differences of counts, worked out anew for each combination.
 //! - [`Fast`] walks with difference bounds that it keeps up to date, and finds entries by hashing. It is what a benchmark compares with.
 //!
+//! Tables of diagrams are checked by [`Plain`] as trees, with [`Paths`] to look for a sheet on every path, and by [`Fast`] with the set of
+//! entries below each handle.
+//!
 //! The two share the limits, the refusal numbers and the term words below, and nothing else.
 
 mod fast;
+mod normal_form;
 mod plain;
+mod trees;
 
 pub use fast::Fast;
+pub use normal_form::{rules_that_apply, NormalFormRule, NORMAL_FORM_RULES};
 pub use plain::{largest_count, Plain, Question, Truths};
 pub use plain::{possible_by_bounds, possible_by_counting, sheets_by_bounds, sheets_by_counting};
+pub use trees::{leaves, Path, Paths};
 
 /// The largest number of fields of a sheet.
 pub const MOST_FIELDS: u32 = 16;
 /// The largest number of steps of a term.
 pub const MOST_STEPS: u32 = 1023;
+/// The largest number of steps of a term in a table of diagrams.
+pub const MOST_CHECKED_STEPS: u32 = 4095;
 /// The largest number of questions in a list.
 pub const MOST_QUESTIONS: usize = 20;
-/// The largest number of entries in a store.
+/// The largest number of entries in a store, and in a table of diagrams.
 pub const MOST_ENTRIES: usize = 4096;
 /// The largest number of rows of a rule table.
 pub const MOST_ROWS: usize = 256;
@@ -36,7 +45,7 @@ pub const ALWAYS: u32 = 1;
 /// The handle of the first entry.
 pub const FIRST_ENTRY: u32 = 2;
 
-/// The refusal numbers of document 01, each under the condition that it stands for.
+/// The refusal numbers of documents 01 and 02, each under the condition that it stands for.
 pub mod refusal {
     pub const TOO_MANY_FIELDS: u32 = 11;
     pub const ODD_LIST: u32 = 12;
@@ -57,9 +66,15 @@ pub mod refusal {
     pub const NO_ROOM: u32 = 51;
     pub const NOTHING_SATISFIES: u32 = 52;
     pub const TOO_LARGE_TO_WRITE: u32 = 53;
+    pub const TABLE_SHAPE: u32 = 81;
+    pub const TABLE_EQUATION: u32 = 82;
+    pub const HANDLE_NOT_LOWER: u32 = 83;
+    pub const EQUAL_ENTRIES: u32 = 84;
+    pub const NOT_REACHABLE: u32 = 85;
+    pub const NOT_NORMAL_FORM: u32 = 86;
 
     /// Every refusal number.
-    pub const ALL: [u32; 19] = [
+    pub const ALL: [u32; 25] = [
         TOO_MANY_FIELDS,
         ODD_LIST,
         TOO_MANY_QUESTIONS,
@@ -79,6 +94,12 @@ pub mod refusal {
         NO_ROOM,
         NOTHING_SATISFIES,
         TOO_LARGE_TO_WRITE,
+        TABLE_SHAPE,
+        TABLE_EQUATION,
+        HANDLE_NOT_LOWER,
+        EQUAL_ENTRIES,
+        NOT_REACHABLE,
+        NOT_NORMAL_FORM,
     ];
 }
 
@@ -108,7 +129,7 @@ pub struct SimplifyAnswer {
     pub gap: i32,
 }
 
-/// The ten operations over lent words. Each way of doing them has this form, so that they can be compared call by call.
+/// The eleven operations over lent words. Each way of doing them has this form, so that they can be compared call by call.
 pub trait Operations {
     fn simplify(&self, a: u32, b: u32) -> SimplifyAnswer;
     fn open(&self, n: u32, list: &[u32], store: &mut [u32]) -> Answer;
@@ -120,10 +141,11 @@ pub trait Operations {
     fn example(&self, store: &[u32], a: u32, sheet: &mut [u16]) -> Answer;
     fn read(&self, store: &[u32], a: u32, sheet: &[u16]) -> Answer;
     fn write_back(&self, store: &[u32], a: u32, rule: &mut [u32]) -> Answer;
+    fn check_normal_form(&self, table: &[u32], root: u32) -> Answer;
 }
 
 /// A term: a field's count plus steps. Field 0 is zero.
-#[derive(Clone, Copy, Debug, PartialEq, Eq)]
+#[derive(Clone, Copy, Debug, PartialEq, Eq, Hash)]
 pub struct Term {
     pub field: u32,
     pub steps: u32,

@@ -5,7 +5,7 @@ use std::collections::{BTreeMap, BTreeSet};
 use std::rc::Rc;
 
 use crate::refusal::*;
-use crate::{Answer, Operations, SimplifyAnswer, Term};
+use crate::{trees, Answer, Operations, SimplifyAnswer, Term};
 use crate::{ALWAYS, FIRST_ENTRY, HEADING, MOST_ENTRIES, MOST_FIELDS, MOST_QUESTIONS, MOST_ROWS, NEVER};
 
 /// The answers to all questions of a list: bit i is the truth of question i, counted from 0.
@@ -101,7 +101,7 @@ pub fn possible_by_counting(n: u32, questions: &[Question]) -> Vec<Truths> {
 }
 
 /// The next sheet of the box, field 1 compared first, or none after the last.
-fn next_sheet(mut counts: Vec<u64>, most: u64) -> Option<Vec<u64>> {
+pub(crate) fn next_sheet(mut counts: Vec<u64>, most: u64) -> Option<Vec<u64>> {
     let last_below = counts.iter().rposition(|count| *count < most)?;
     counts[last_below] += 1;
     counts[last_below + 1..].fill(0);
@@ -109,7 +109,7 @@ fn next_sheet(mut counts: Vec<u64>, most: u64) -> Option<Vec<u64>> {
 }
 
 /// A term's value: field 0 counts zero.
-fn value(term: Term, counts: &[u64]) -> u64 {
+pub(crate) fn value(term: Term, counts: &[u64]) -> u64 {
     let count = if term.field == 0 { 0 } else { counts[term.field as usize - 1] };
     count + u64::from(term.steps)
 }
@@ -145,7 +145,7 @@ pub fn sheets_by_bounds(n: u32, questions: &[Question]) -> Vec<Vec<u64>> {
 }
 
 /// An answered question.
-type Fact = (Question, bool);
+pub(crate) type Fact = (Question, bool);
 
 fn facts_of(questions: &[Question], truths: Truths) -> Vec<Fact> {
     questions.iter().enumerate().map(|(i, question)| (*question, truths >> i & 1 == 1)).collect()
@@ -186,7 +186,7 @@ fn difference_bounds(n: u32, facts: &[Fact]) -> Option<Vec<Vec<i64>>> {
 /// choice breaks none of them: fields joined by yes questions move together, each such group that zero isn't in can be raised
 /// without limit by itself, and each no question shuts out only one height of one group against another. So groups raised far
 /// enough apart fit all facts.
-fn fits(n: u32, facts: &[Fact]) -> bool {
+pub(crate) fn fits(n: u32, facts: &[Fact]) -> bool {
     let Some(most) = difference_bounds(n, facts) else { return false };
     facts.iter().filter(|(_, yes)| !*yes).all(|(question, _)| {
         let (left, right) = (question.0.field as usize, question.1.field as usize);
@@ -218,13 +218,13 @@ fn least_sheet(n: u32, mut facts: Vec<Fact>) -> Vec<u64> {
 // ---------------------------------------------------------------------------------------------------------------------
 
 #[derive(PartialEq, Eq)]
-enum Simplified {
+pub(crate) enum Simplified {
     Never,
     Always,
     Question(Question),
 }
 
-fn simplified(a: Term, b: Term) -> Simplified {
+pub(crate) fn simplified(a: Term, b: Term) -> Simplified {
     if a.field == b.field {
         return if a.steps == b.steps { Simplified::Always } else { Simplified::Never };
     }
@@ -239,7 +239,7 @@ fn simplified(a: Term, b: Term) -> Simplified {
 }
 
 /// The numbers that two questions are compared by.
-fn rank(question: &Question) -> (u32, u32, u32, u32) {
+pub(crate) fn rank(question: &Question) -> (u32, u32, u32, u32) {
     let (left, right) = question;
     (left.field, right.field, left.steps, right.steps)
 }
@@ -697,5 +697,9 @@ impl Operations for Plain {
 
     fn write_back(&self, store: &[u32], a: u32, rule: &mut [u32]) -> Answer {
         write_back(store, a, rule).into()
+    }
+
+    fn check_normal_form(&self, table: &[u32], root: u32) -> Answer {
+        trees::check(table, root).into()
     }
 }

@@ -36,15 +36,19 @@
 //! assert_eq!(refusal.to_string(), "an equation of the rule is not on the store's list of questions");
 //! # Ok::<(), sheet::Refusal>(())
 //! ```
+//!
+//! Diagrams that another tool has made are checked as a [`DiagramTable`], without a store.
 
 #![warn(missing_docs)]
 
+mod normal_form;
 mod refusal;
 mod rule;
 mod store;
 mod term;
 pub mod words;
 
+pub use normal_form::{DiagramEntry, DiagramTable};
 pub use refusal::Refusal;
 pub use rule::{Row, RowNumber, Rule, RuleTable};
 pub use store::{Entry, Handle, Store, Verdict};

@@ -55,11 +55,23 @@ pub enum Refusal {
     NothingSatisfies = 52,
     /// 53: a rule that takes more than 256 rows to write back.
     TooLargeToWrite = 53,
+    /// 81: words of a table of diagrams that aren't whole entries, more than 4,096 entries, or a root that the table doesn't have.
+    TableShape = 81,
+    /// 82: a field above 16, steps above 4,095, or an equation that isn't simplified in a table of diagrams.
+    TableEquation = 82,
+    /// 83: an entry that names a handle not lower than its own.
+    HandleNotLower = 83,
+    /// 84: two equal entries of a table of diagrams.
+    EqualEntries = 84,
+    /// 85: an entry that isn't reachable from the root.
+    NotReachable = 85,
+    /// 86: a diagram that isn't in normal form.
+    NotNormalForm = 86,
 }
 
 impl Refusal {
     /// Every refusal, in the order of the numbers.
-    pub const ALL: [Refusal; 19] = [
+    pub const ALL: [Refusal; 25] = [
         Refusal::TooManyFields,
         Refusal::OddList,
         Refusal::TooManyQuestions,
@@ -79,6 +91,12 @@ impl Refusal {
         Refusal::NoRoom,
         Refusal::NothingSatisfies,
         Refusal::TooLargeToWrite,
+        Refusal::TableShape,
+        Refusal::TableEquation,
+        Refusal::HandleNotLower,
+        Refusal::EqualEntries,
+        Refusal::NotReachable,
+        Refusal::NotNormalForm,
     ];
 
     /// The refusal's number.
@@ -126,6 +144,18 @@ impl fmt::Display for Refusal {
             Refusal::NoRoom => "the store has no room for the rule's diagram",
             Refusal::NothingSatisfies => "no sheet satisfies the rule",
             Refusal::TooLargeToWrite => "the rule takes more than 256 rows to write",
+            Refusal::TableShape => {
+                "the table's words are not whole entries of four, it has more than 4,096 entries, or it has no such root"
+            }
+            Refusal::TableEquation => {
+                "an entry of the table has a field above 16, more than 4,095 steps, or an equation that is not simplified"
+            }
+            Refusal::HandleNotLower => "an entry of the table names a handle that is not lower than its own",
+            Refusal::EqualEntries => "two entries of the table are equal",
+            Refusal::NotReachable => "an entry of the table is not reachable from the root",
+            Refusal::NotNormalForm => {
+                "the diagram is not in normal form: an entry has two equal parts, or a part whose first equation is not above its own, or a yes part that names its left field again"
+            }
         })
     }
 }

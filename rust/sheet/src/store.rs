@@ -2,7 +2,7 @@ use crate::refusal::outcome;
 use crate::words::{self, Answer};
 use crate::{Equation, Question, Refusal, Rule, RuleTable};
 
-/// A diagram in a store. It means something only in the store that gave it.
+/// A diagram in a store or in a [`DiagramTable`](crate::DiagramTable). It means something only in the one that gave it.
 #[derive(Clone, Copy, Debug, PartialEq, Eq, Hash, PartialOrd, Ord)]
 pub struct Handle(u32);
 
@@ -12,7 +12,7 @@ impl Handle {
     /// The rule that every sheet satisfies.
     pub const ALWAYS: Handle = Handle(1);
 
-    /// The handle with a number. Entry i of a store, counted from 0, is handle i + 2.
+    /// The handle with a number. Entry i of a store or table, counted from 0, is handle i + 2.
     pub fn from_number(number: u32) -> Handle {
         Handle(number)
     }
@@ -32,6 +32,17 @@ pub enum Verdict {
     Always,
     /// Some do and some don't.
     Sometimes,
+}
+
+impl Verdict {
+    /// The verdict that a result stands for.
+    pub(crate) fn from_result(result: u32) -> Verdict {
+        match result {
+            0 => Verdict::Never,
+            1 => Verdict::Always,
+            _ => Verdict::Sometimes,
+        }
+    }
 }
 
 /// An entry of a store: a question, and the handles to go on with.
@@ -181,11 +192,7 @@ impl Store {
 
     /// Whether no sheet, every sheet or some sheet satisfies a handle.
     pub fn verdict(&self, a: Handle) -> Result<Verdict, Refusal> {
-        Ok(match result(words::verdict(&self.words, a.0))? {
-            0 => Verdict::Never,
-            1 => Verdict::Always,
-            _ => Verdict::Sometimes,
-        })
+        result(words::verdict(&self.words, a.0)).map(Verdict::from_result)
     }
 
     /// The least sheet that satisfies a handle, field 1 compared first. [`Refusal::NothingSatisfies`] if there is none.

@@ -16,7 +16,7 @@ pub const ZERO: Field = Field(0);
 #[derive(Clone, Copy, Debug, PartialEq, Eq, Hash, PartialOrd, Ord)]
 pub struct Steps(pub u32);
 
-/// A field's count plus a number of steps. Up to 1,023 steps are accepted.
+/// A field's count plus a number of steps. Up to 1,023 steps are accepted, in a [`DiagramTable`](crate::DiagramTable) up to 4,095.
 ///
 /// ```
 /// use sheet::{Field, Term, ZERO};

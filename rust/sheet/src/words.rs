@@ -1,7 +1,8 @@
-//! The ten operations on lent words, as C has them but with slices: no call can be given overlapping, dangling or wrongly measured memory.
+//! The eleven operations on lent words, as C has them but with slices: no call can be given overlapping, dangling or wrongly measured memory.
 //!
 //! Every call is safe on any words whatever: the library is proved for all of them, and refuses what it can't work with. What the
-//! words and numbers mean stands at [`Store`](crate::Store), [`RuleTable`](crate::RuleTable) and [`Refusal`](crate::Refusal).
+//! words and numbers mean stands at [`Store`](crate::Store), [`RuleTable`](crate::RuleTable), [`DiagramTable`](crate::DiagramTable)
+//! and [`Refusal`](crate::Refusal).
 //!
 //! ```
 //! use sheet::words;
@@ -62,6 +63,7 @@ mod c {
         pub fn sheet_read(store: *const u32, store_len: usize, a: u32, sheet: *const u16, sheet_len: usize) -> Answer;
         pub fn sheet_write_back(store: *const u32, store_len: usize, a: u32, rule: *mut u32, rule_len: usize)
             -> Answer;
+        pub fn sheet_check_normal_form(table: *const u32, table_len: usize, root: u32) -> Answer;
     }
 }
 
@@ -126,4 +128,10 @@ pub fn read(store: &[u32], a: u32, sheet: &[u16]) -> Answer {
 pub fn write_back(store: &[u32], a: u32, rule: &mut [u32]) -> Answer {
     // SAFETY: pointers and lengths are those of borrowed slices.
     unsafe { c::sheet_write_back(store.as_ptr(), store.len(), a, rule.as_mut_ptr(), rule.len()) }
+}
+
+/// Checks that a table of diagrams is one in normal form, from its root down. The result is the root's verdict: 0, 1 or 2.
+pub fn check_normal_form(table: &[u32], root: u32) -> Answer {
+    // SAFETY: pointer and length are those of a borrowed slice.
+    unsafe { c::sheet_check_normal_form(table.as_ptr(), table.len(), root) }
 }

@@ -1,6 +1,7 @@
 //! The typed interface gives what the words give, and every refusal that its types leave possible.
 
-use sheet::{words, Equation, Field, Handle, Refusal, Row, RowNumber, Rule, RuleTable, Store, ZERO};
+use sheet::{words, DiagramEntry, DiagramTable, Equation, Field, Handle, Refusal, Row, RowNumber, Rule, RuleTable};
+use sheet::{Store, Verdict, ZERO};
 
 fn pairs() -> [Equation; 3] {
     [Field(2).equals(Field(1)), Field(3).equals(Field(1)), Field(3).equals(Field(2))]
@@ -126,4 +127,66 @@ fn a_store_shows_its_words() {
     let table = store.write_back(handle).unwrap();
     assert_eq!(table.to_words(), rule[..4 * answer.result as usize]);
     assert_eq!(table.rows().len(), 10);
+}
+
+/// A diagram's entry by its equation and the numbers of its handles.
+fn entry(equation: Equation, yes: u32, no: u32) -> DiagramEntry {
+    DiagramEntry { equation, yes: Handle::from_number(yes), no: Handle::from_number(no) }
+}
+
+fn checked(entries: &[DiagramEntry], root: u32) -> Result<Verdict, Refusal> {
+    entries.iter().copied().collect::<DiagramTable>().check(Handle::from_number(root))
+}
+
+#[test]
+fn diagrams_in_normal_form_get_a_verdict() {
+    assert_eq!(checked(&[], 0), Ok(Verdict::Never));
+    assert_eq!(checked(&[], 1), Ok(Verdict::Always));
+    assert_eq!(checked(&[entry(pairs()[1], 1, 0), entry(pairs()[0], 2, 0)], 3), Ok(Verdict::Sometimes));
+    assert_eq!(checked(&[entry(pairs()[2], 1, 0), entry(pairs()[0], 1, 2)], 3), Ok(Verdict::Sometimes));
+}
+
+#[test]
+fn a_table_takes_more_steps_than_a_rule() {
+    let most = Field(16).equals(Field(15) + 4_095);
+    assert_eq!(checked(&[entry(most, 1, 0)], 2), Ok(Verdict::Sometimes));
+    assert_eq!(most.simplify(), Err(Refusal::RuleTerm));
+    for equation in [Field(2).equals(Field(1) + 4_096), Field(2).equals(Field(1) + u32::MAX), Field(17).equals(ZERO)] {
+        assert_eq!(checked(&[entry(equation, 1, 0)], 2), Err(Refusal::TableEquation));
+    }
+}
+
+#[test]
+fn diagrams_are_refused() {
+    let [first, inner, last] = pairs();
+    assert_eq!(checked(&[], 2), Err(Refusal::TableShape));
+    assert_eq!(checked(&[entry(last, 1, 0); 4_097], 2), Err(Refusal::TableShape));
+    assert_eq!(checked(&[entry(Field(1).equals(Field(2)), 1, 0)], 2), Err(Refusal::TableEquation));
+    assert_eq!(checked(&[entry(last, 2, 0)], 2), Err(Refusal::HandleNotLower));
+    assert_eq!(checked(&[entry(last, 1, 0); 2], 3), Err(Refusal::EqualEntries));
+    assert_eq!(checked(&[entry(last, 1, 0)], 1), Err(Refusal::NotReachable));
+
+    // The same part twice; the same equation again; equations out of order; a field that the first equation has settled.
+    let not_normal: [&[DiagramEntry]; 4] = [
+        &[entry(inner, 1, 0), entry(first, 2, 2)],
+        &[entry(first, 1, 0), entry(first, 1, 2)],
+        &[entry(first, 1, 0), entry(inner, 1, 2)],
+        &[entry(last, 1, 0), entry(first, 2, 0)],
+    ];
+    for entries in not_normal {
+        assert_eq!(checked(entries, 3), Err(Refusal::NotNormalForm));
+    }
+}
+
+#[test]
+fn a_table_shows_its_words() {
+    let mut table = DiagramTable::new();
+    let below = table.push((Field(3) + 2).equals(Field(1)), Handle::ALWAYS, Handle::NEVER);
+    let root = table.push((Field(2) + 2).equals(Field(1)), below, Handle::NEVER);
+    assert_eq!((below.number(), root.number()), (2, 3));
+    assert_eq!(table.entries()[1], entry((Field(2) + 2).equals(Field(1)), 2, 0));
+    assert_eq!(table.to_words(), [67, 1, 1, 0, 66, 1, 2, 0]);
+    assert_eq!(DiagramTable::check_words(&table.to_words(), root), table.check(root));
+    let answer = words::check_normal_form(&table.to_words(), root.number());
+    assert_eq!((answer.number, answer.result), (0, 2));
 }

@@ -10,8 +10,9 @@ use std::time::{Duration, Instant};
 
 use compare::generate::{in_order, parity_rule, sound_entries, store_of, tangled_rule, Survey};
 use compare::library::Library;
+use compare::normal_forms::{self, last, Entry};
 use compare::random::Random;
-use independent::{Fast, Operations, Term, HEADING, MOST_ENTRIES, MOST_STEPS};
+use independent::{Fast, Operations, Term, FIRST_ENTRY, HEADING, MOST_ENTRIES, MOST_STEPS};
 
 /// A row's process is ended after this time.
 const MOST_TIME: Duration = Duration::from_secs(60);
@@ -195,6 +196,18 @@ fn building(survey: Survey, rule: Vec<u32>) -> Run {
     changing(opened(&survey, MOST_ENTRIES), move |operations, store| operations.build(store, &rule).number)
 }
 
+/// Checks a table of diagrams whose root is its last entry. Nothing is written, so nothing has to be put back.
+fn checking(entries: &[Entry], number: u32) -> Run {
+    let (table, root) = (entries.concat(), last(entries));
+    Box::new(move |operations| {
+        let start = Instant::now();
+        let answer = operations.check_normal_form(black_box(&table), root);
+        let time = start.elapsed();
+        assert_eq!(answer.number, number);
+        time
+    })
+}
+
 fn row(group: &'static str, name: impl Into<String>, prepare: impl Fn() -> Run + 'static) -> Row {
     Row { group, name: name.into(), prepare: Box::new(prepare) }
 }
@@ -204,6 +217,7 @@ fn rows() -> Vec<Row> {
     rows.extend(build_rows());
     rows.extend(handle_rows());
     rows.extend(growth_rows());
+    rows.extend(check_rows());
     rows
 }
 
@@ -309,4 +323,47 @@ fn growth_rows() -> Vec<Row> {
         }));
     }
     rows
+}
+
+/// Sixteen fields with many shared parts: a normal form of 4,096 entries.
+fn shared_parts() -> Vec<Entry> {
+    normal_forms::large(&mut Random::new(9), MOST_ENTRIES)
+}
+
+/// The same with field 1 named far below the root, which asks 1 = 0: the first entry that asks of field 2 and a number asks of field 1 plus
+/// this number instead. Rule 8' applies at the root, the last entry, and nowhere else.
+fn named_far_below() -> Vec<Entry> {
+    let mut entries = shared_parts();
+    let of_second = entries.iter_mut().find(|entry| entry[0] == 2).expect("an entry about field 2");
+    of_second[1] += 1;
+    entries
+}
+
+/// Field 16 against the others, in a chain; the yes part of the root, 16 = 0, names field 16 as well.
+fn last_field_again() -> Vec<Entry> {
+    let equations = (0..MOST_ENTRIES as u32).rev().map(|number| question(16, number / 256, number % 256));
+    let mut entries: Vec<Entry> = Vec::new();
+    for [left, right] in equations {
+        let below = if entries.is_empty() { 0 } else { last(&entries) };
+        entries.push([left, right, 1, below]);
+    }
+    entries[MOST_ENTRIES - 1][2] = FIRST_ENTRY;
+    entries
+}
+
+fn check_rows() -> Vec<Row> {
+    const GROUP: &str = "Checking another desk's diagram of 4,096 entries";
+    vec![
+        row(GROUP, "accepted: one field against 4,096 numbers", || {
+            checking(&normal_forms::chain(MOST_ENTRIES as u32), 0)
+        }),
+        row(GROUP, "accepted: 16 fields, shared parts", || checking(&shared_parts(), 0)),
+        row(GROUP, "84: the same, the last two entries equal", || {
+            let mut entries = shared_parts();
+            entries[MOST_ENTRIES - 1] = entries[MOST_ENTRIES - 2];
+            checking(&entries, 84)
+        }),
+        row(GROUP, "86: the same, rule 8' at the root", || checking(&named_far_below(), 86)),
+        row(GROUP, "86: field 16 against the others, rule 8' at the root", || checking(&last_field_again(), 86)),
+    ]
 }

@@ -6,6 +6,7 @@ mod cases;
 mod hostile;
 mod limits;
 mod lists;
+mod normal_forms;
 
 use std::process::ExitCode;
 use std::time::Instant;
@@ -27,7 +28,7 @@ fn main() -> ExitCode {
 
     let mut comparison = Comparison::default();
     type Suite = fn(&mut Comparison, &mut Random, u64);
-    let suites: [(&str, Suite); 11] = [
+    let suites: [(&str, Suite); 15] = [
         ("the documents' cases", cases::document_cases),
         ("simplify", hostile::simplify),
         ("the two ways to find possible answers", lists::possible_answers),
@@ -39,6 +40,10 @@ fn main() -> ExitCode {
         ("damaged stores", hostile::damaged_stores),
         ("limits", limits::limits),
         ("large diagrams", limits::large_diagrams),
+        ("the worked cases of another desk's diagrams", normal_forms::worked_cases),
+        ("all small diagrams", normal_forms::all_small),
+        ("diagrams close to a normal form", normal_forms::close_to_normal),
+        ("large diagrams of another desk", normal_forms::large),
     ];
     for (i, (name, suite)) in suites.into_iter().enumerate() {
         let start = Instant::now();

@@ -9,10 +9,10 @@ use Rattle.checking.proofs.naming.all_apart.Statement.{statement}
 use Rattle.checking.proofs.naming.all_apart.Tie as tie
 
 abbrev Inv-loop : tie.InvT-loop
-Inv-loop t f count flags i₀ i = Passed (left-apart table-limits t f) count i
+Inv-loop t count sets i₀ i = Passed (left-apart table-limits t) count i
 
 abbrev μ-loop : tie.MeasureT-loop
-μ-loop t f count flags i₀ i = count - i
+μ-loop t count sets i₀ i = count - i
 
 loop-holds : tie.Need-loop-holds Inv-loop μ-loop
 loop-holds c = search (needs, passed-none)

@@ -1,7 +1,7 @@
--- `left_apart` meets its contract: another left field passes, and else the flag of the yes handle decides.
-use borrow.Author.Needs.{needs}
+-- `left_apart` meets its contract: the left field is looked up among those named at or below the yes handle.
 use Rattle.checking.proofs.EntryWays.{yes-flagged}
-use Rattle.checking.proofs.NameWays.{other-field, named-below, not-below}
+use Rattle.checking.proofs.NameWays.{left-small, named-below, not-below}
+use borrow.Author.Needs.{needs}
 use Rattle.checking.proofs.naming.left_apart.Statement.{statement}
 use Rattle.checking.proofs.naming.left_apart.Tie as tie
 
@@ -14,17 +14,20 @@ equation-of-requires c κs = search needs
 wide-requires : tie.Need-wide-requires
 wide-requires c κs = search needs
 
-element-copy-out-if2 : tie.Need-element-copy-out-if2
-element-copy-out-if2 c = search (needs, yes-flagged)
+mul-has-field : tie.Need-mul-has-field
+mul-has-field c = search needs
+
+element-copy-out-has-field : tie.Need-element-copy-out-has-field
+element-copy-out-has-field c = search (needs, yes-flagged)
+
+has-field-requires : tie.Need-has-field-requires
+has-field-requires c κs = search (needs, left-small)
 
 returns : tie.Need-returns
 returns c = search (needs, named-below)
 
 returns-2 : tie.Need-returns-2
 returns-2 c = search (needs, not-below)
-
-returns-3 : tie.Need-returns-3
-returns-3 c = search (needs, other-field)
 
 pub left-apart-spec : {M : Type 1} → statement M
 left-apart-spec =
@@ -33,7 +36,8 @@ left-apart-spec =
     entry-of-requires
     equation-of-requires
     wide-requires
-    element-copy-out-if2
+    mul-has-field
+    element-copy-out-has-field
+    has-field-requires
     returns
-    returns-2
-    returns-3)
+    returns-2)

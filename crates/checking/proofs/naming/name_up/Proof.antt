@@ -1,4 +1,4 @@
--- `name_up` meets its contract: each turn does one entry of the pass, from the first up.
+-- `name_up` meets its contract: each turn finds the fields named at or below one entry.
 use borrow.Author.Needs.{needs}
 use Prim.Native.Nat.{_-_}
 use Rattle.checking.proofs.EntryWays.{has-parts}
@@ -7,22 +7,25 @@ use Rattle.checking.proofs.naming.name_up.Statement.{statement}
 use Rattle.checking.proofs.naming.name_up.Tie as tie
 
 abbrev Inv-loop : tie.InvT-loop
-Inv-loop t f count flags₀ i₀ flags i = Naming f t count flags i
+Inv-loop t count sets₀ i₀ sets i = Naming t count sets i
 
 abbrev μ-loop : tie.MeasureT-loop
-μ-loop t f count flags₀ i₀ flags i = count - i
+μ-loop t count sets₀ i₀ sets i = count - i
 
 loop-holds : tie.Need-loop-holds Inv-loop μ-loop
 loop-holds c = search (needs, naming-begins)
 
-named-at-requires : tie.Need-named-at-requires Inv-loop μ-loop
-named-at-requires c κs = search (needs, has-parts)
+fields-at-requires : tie.Need-fields-at-requires Inv-loop μ-loop
+fields-at-requires c κs = search (needs, has-parts)
 
-add-flags : tie.Need-add-flags Inv-loop μ-loop
-add-flags c = search needs
+add-sets : tie.Need-add-sets Inv-loop μ-loop
+add-sets c = search needs
 
-element-write-flags : tie.Need-element-write-flags Inv-loop μ-loop
-element-write-flags c = search needs
+mul-sets : tie.Need-mul-sets Inv-loop μ-loop
+mul-sets c = search needs
+
+element-write-sets : tie.Need-element-write-sets Inv-loop μ-loop
+element-write-sets c = search needs
 
 add-i : tie.Need-add-i Inv-loop μ-loop
 add-i c = search needs
@@ -43,9 +46,10 @@ name-up-spec =
     Inv-loop
     μ-loop
     loop-holds
-    named-at-requires
-    add-flags
-    element-write-flags
+    fields-at-requires
+    add-sets
+    mul-sets
+    element-write-sets
     add-i
     loop-less
     loop-again
