@@ -284,13 +284,15 @@ static void check(const char *call, const uint32_t *table, size_t length, uint32
     answer(call, sheet_check_normal_form(table, length, root), number, result);
 }
 
-/* Document 02 (vii). No entries, by NULL; words that are no entries; a root that there is not. */
+/* Document 02 (vii). No entries, by NULL; words that are not whole entries; a root that is no handle. */
 static void tables_of_any_shape(void)
 {
     check("vii check never", NULL, 0, 0, 0, 0);
     check("vii check always", NULL, 0, 1, 0, 1);
     check("vii check no entries, root 2", NULL, 0, 2, 81, 0);
     check("vii check three words", WORDS(3, 2, 1), 0, 81, 0);
+    check("vii check five words", WORDS(3, 2, 1, 0, 3), 2, 81, 0);
+    check("vii check six words", WORDS(3, 2, 1, 0, 3, 2), 2, 81, 0);
     check("vii check one entry, root 3", WORDS(3, 2, 1, 0), 3, 81, 0);
 }
 
@@ -298,9 +300,13 @@ static void normal_forms(void)
 {
     check("vii check 000's Example 29, rewritten", WORDS(67, 1, 1, 0, 66, 1, 2, 0), 3, 0, 2);
     check("vii check 2 = 1 and 3 = 1", WORDS(3, 1, 1, 0, 2, 1, 2, 0), 3, 0, 2);
+    check("vii check 2 = 0 and 3 = 0", WORDS(3, 0, 1, 0, 2, 0, 2, 0), 3, 0, 2);
     check("vii check 2 = 1 or 3 = 2", WORDS(3, 2, 1, 0, 2, 1, 1, 2), 3, 0, 2);
     check("vii check not 2 = S(0), and 2 = S3(1)", WORDS(2, 97, 1, 0, 2, 32, 0, 2), 3, 0, 2);
     check("vii check S(3) = 1 or 3 = 2", WORDS(3, 2, 1, 0, 35, 1, 1, 2), 3, 0, 2);
+    check("vii check 2 = S(1) or S(2) = 1", WORDS(34, 1, 1, 0, 2, 33, 1, 2), 3, 0, 2);
+    check("vii check S(2) = 1 or S2(2) = 1", WORDS(66, 1, 1, 0, 34, 1, 1, 2), 3, 0, 2);
+    check("vii check 2 = S(1) or 2 = S2(1)", WORDS(2, 65, 1, 0, 2, 33, 1, 2), 3, 0, 2);
 }
 
 static void not_normal_forms(void)
@@ -311,9 +317,11 @@ static void not_normal_forms(void)
     check("vii check rule 6", WORDS(2, 1, 1, 0, 3, 1, 2, 1), 3, 86, 0);
     check("vii check rule 7", WORDS(2, 1, 1, 0, 3, 1, 1, 2), 3, 86, 0);
     check("vii check rule 7, right field before left steps", WORDS(35, 1, 1, 0, 3, 2, 1, 2), 3, 86, 0);
+    check("vii check rule 7, left steps before right steps", WORDS(2, 33, 1, 0, 34, 1, 1, 2), 3, 86, 0);
     check("vii check rule 8', 000's Example 29", WORDS(3, 2, 1, 0, 66, 1, 2, 0), 3, 86, 0);
     check("vii check rule 8', below by yes", WORDS(4, 2, 1, 0, 3, 1, 2, 0, 2, 1, 3, 0), 4, 86, 0);
     check("vii check rule 8', below by no", WORDS(4, 2, 1, 0, 3, 1, 1, 2, 2, 1, 3, 0), 4, 86, 0);
+    check("vii check rule 8', a path that no sheet follows", WORDS(3, 2, 1, 0, 3, 1, 1, 2, 2, 1, 3, 0), 4, 86, 0);
     check("vii check rule 8', on the left", WORDS(2, 97, 1, 0, 2, 32, 2, 0), 3, 86, 0);
 }
 
@@ -325,20 +333,26 @@ static void terms_of_tables(void)
     check("vii check S(2) = S(1)", WORDS(34, 33, 1, 0), 2, 82, 0);
     check("vii check S(1) = 0", WORDS(33, 0, 1, 0), 2, 82, 0);
     check("vii check 2 = 2", WORDS(2, 2, 1, 0), 2, 82, 0);
+    check("vii check S4096(2) = 1", WORDS(131074, 1, 1, 0), 2, 82, 0);
     check("vii check 2 = S4095(1)", WORDS(2, 131041, 1, 0), 2, 0, 2);
+    check("vii check S4095(2) = 1", WORDS(131042, 1, 1, 0), 2, 0, 2);
     check("vii check 16 = S4095(15)", WORDS(16, 131055, 1, 0), 2, 0, 2);
 }
 
 static void handles_of_tables(void)
 {
     check("vii check an entry's own handle", WORDS(2, 1, 2, 0), 2, 83, 0);
+    check("vii check an entry's own handle by no", WORDS(2, 1, 1, 2), 2, 83, 0);
     check("vii check the largest handle", WORDS(2, 1, 4294967295, 0), 2, 83, 0);
+    check("vii check 83 before 84", WORDS(2, 1, 2, 0, 2, 1, 2, 0), 3, 83, 0);
+    check("vii check 83 after equal entries", WORDS(3, 2, 1, 0, 3, 2, 1, 0, 2, 1, 4, 0), 4, 83, 0);
     check("vii check 82 before 83", WORDS(2, 1, 4294967295, 0, 2, 2, 1, 0), 3, 82, 0);
     check("vii check equal entries", WORDS(3, 2, 1, 0, 3, 2, 1, 0), 3, 84, 0);
     check("vii check equal entries, root 2", WORDS(3, 2, 1, 0, 3, 2, 1, 0), 2, 84, 0);
     check("vii check an entry not referred to", WORDS(3, 2, 1, 0, 2, 1, 1, 0), 3, 85, 0);
     check("vii check an entry above the root", WORDS(3, 2, 1, 0, 2, 1, 2, 0), 2, 85, 0);
     check("vii check an entry, root 1", WORDS(3, 2, 1, 0), 1, 85, 0);
+    check("vii check 85 before 86", WORDS(2, 1, 1, 1, 3, 1, 1, 0), 2, 85, 0);
 }
 
 /* One field against the numbers 0 to 4,095, the largest lowest: as many entries as there can be. Then one more. */

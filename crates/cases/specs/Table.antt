@@ -176,7 +176,8 @@ case-11 =
     }
 
 -- ---- document 02 (vii): tables of entries, each with its root
--- No entries: a root of 0 is never, 1 always, and 2 no handle. Three words are no entries. Handle 3 is not there, with one entry.
+-- No entries: a root of 0 is never, 1 always, and 2 no handle. Two, three, five or six words are not whole entries, whichever the root. Handle 3 is not there, with one
+-- entry.
 abbrev pub check-shapes : Case
 check-shapes = record {
   start = [];
@@ -184,33 +185,40 @@ check-shapes = record {
       check [] 0
       ∷ check [] 1
       ∷ check [] 2
-      ∷ check (3 ∷ 2 ∷ 1 ∷ []) 2
+      ∷ check (3 ∷ 2 ∷ []) 0
+      ∷ check (3 ∷ 2 ∷ 1 ∷ []) 0
+      ∷ check (3 ∷ 2 ∷ 1 ∷ 0 ∷ 3 ∷ []) 2
+      ∷ check (3 ∷ 2 ∷ 1 ∷ 0 ∷ 3 ∷ 2 ∷ []) 2
       ∷ check (3 ∷ 2 ∷ 1 ∷ 0 ∷ []) 3 ∷ [];
-  expected = checked 0 0 ∷ checked 0 1 ∷ checked 81 0 ∷ checked 81 0 ∷ checked 81 0 ∷ [];
+  expected = checked 0 0 ∷ checked 0 1 ∷ checked 81 0 ∷ checked 81 0 ∷ checked 81 0 ∷ checked 81 0 ∷ checked 81 0 ∷ checked 81 0 ∷ [];
 }
 
--- Document 000's Example 29, S2(2) = 1 over 3 = 2: rule 8' applies; rewritten, with S2(3) = 1 below, none does. Its Example 36, 2 = 1 over 3 = 1.
+-- Document 000's Example 29, S2(2) = 1 over 3 = 2: rule 8' applies; rewritten, with S2(3) = 1 below, none does. Its Example 36, 2 = 1 over 3 = 1: the right field may be
+-- named again; zero too, 2 = 0 over 3 = 0.
 abbrev pub check-examples : Case
 check-examples = record {
   start = [];
   calls =
       check (3 ∷ 2 ∷ 1 ∷ 0 ∷ 66 ∷ 1 ∷ 2 ∷ 0 ∷ []) 3
       ∷ check (67 ∷ 1 ∷ 1 ∷ 0 ∷ 66 ∷ 1 ∷ 2 ∷ 0 ∷ []) 3
-      ∷ check (3 ∷ 1 ∷ 1 ∷ 0 ∷ 2 ∷ 1 ∷ 2 ∷ 0 ∷ []) 3 ∷ [];
-  expected = checked 86 0 ∷ checked 0 2 ∷ checked 0 2 ∷ [];
+      ∷ check (3 ∷ 1 ∷ 1 ∷ 0 ∷ 2 ∷ 1 ∷ 2 ∷ 0 ∷ []) 3
+      ∷ check (3 ∷ 0 ∷ 1 ∷ 0 ∷ 2 ∷ 0 ∷ 2 ∷ 0 ∷ []) 3 ∷ [];
+  expected = checked 86 0 ∷ checked 0 2 ∷ checked 0 2 ∷ checked 0 2 ∷ [];
 }
 
--- Rule 8' deep in the yes part, also by a no on the way; in the no part the left field may be named. Document 01's case 12, 2 = S(0) over 2 = S3(1), and over it by no.
+-- Rule 8' deep in the yes part, also by a no on the way, there once more where no sheet follows the path 2 = 1, not 3 = 1, 3 = 2; in the no part the left field may be named.
+-- Document 01's case 12, 2 = S(0) over 2 = S3(1), and over it by no.
 abbrev pub check-rule-8 : Case
 check-rule-8 = record {
   start = [];
   calls =
       check (4 ∷ 2 ∷ 1 ∷ 0 ∷ 3 ∷ 1 ∷ 2 ∷ 0 ∷ 2 ∷ 1 ∷ 3 ∷ 0 ∷ []) 4
       ∷ check (4 ∷ 2 ∷ 1 ∷ 0 ∷ 3 ∷ 1 ∷ 1 ∷ 2 ∷ 2 ∷ 1 ∷ 3 ∷ 0 ∷ []) 4
+      ∷ check (3 ∷ 2 ∷ 1 ∷ 0 ∷ 3 ∷ 1 ∷ 1 ∷ 2 ∷ 2 ∷ 1 ∷ 3 ∷ 0 ∷ []) 4
       ∷ check (3 ∷ 2 ∷ 1 ∷ 0 ∷ 2 ∷ 1 ∷ 1 ∷ 2 ∷ []) 3
       ∷ check (2 ∷ 97 ∷ 1 ∷ 0 ∷ 2 ∷ 32 ∷ 2 ∷ 0 ∷ []) 3
       ∷ check (2 ∷ 97 ∷ 1 ∷ 0 ∷ 2 ∷ 32 ∷ 0 ∷ 2 ∷ []) 3 ∷ [];
-  expected = checked 86 0 ∷ checked 86 0 ∷ checked 0 2 ∷ checked 86 0 ∷ checked 0 2 ∷ [];
+  expected = checked 86 0 ∷ checked 86 0 ∷ checked 86 0 ∷ checked 0 2 ∷ checked 86 0 ∷ checked 0 2 ∷ [];
 }
 
 -- Rules 3, 4, 5, 6 and 7, one after the other.
@@ -226,18 +234,25 @@ check-rules-3-to-7 = record {
   expected = checked 86 0 ∷ checked 86 0 ∷ checked 86 0 ∷ checked 86 0 ∷ checked 86 0 ∷ [];
 }
 
--- The right field is compared before the left steps: S(3) = 1, then by no 3 = 2, and the other way round.
+-- Four numbers are compared. The right field before the left steps: S(3) = 1, then by no 3 = 2, and the other way round. The left steps before the right steps: 2 = S(1), then by no
+-- S(2) = 1, and the other way round. Steps ascend: S(2) = 1, then by no S2(2) = 1, and the other way round; 2 = S(1), then by no 2 = S2(1), and the other way round.
 abbrev pub check-order : Case
 check-order = record {
   start = [];
   calls =
       check (3 ∷ 2 ∷ 1 ∷ 0 ∷ 35 ∷ 1 ∷ 1 ∷ 2 ∷ []) 3
-      ∷ check (35 ∷ 1 ∷ 1 ∷ 0 ∷ 3 ∷ 2 ∷ 1 ∷ 2 ∷ []) 3 ∷ [];
-  expected = checked 0 2 ∷ checked 86 0 ∷ [];
+      ∷ check (35 ∷ 1 ∷ 1 ∷ 0 ∷ 3 ∷ 2 ∷ 1 ∷ 2 ∷ []) 3
+      ∷ check (34 ∷ 1 ∷ 1 ∷ 0 ∷ 2 ∷ 33 ∷ 1 ∷ 2 ∷ []) 3
+      ∷ check (2 ∷ 33 ∷ 1 ∷ 0 ∷ 34 ∷ 1 ∷ 1 ∷ 2 ∷ []) 3
+      ∷ check (66 ∷ 1 ∷ 1 ∷ 0 ∷ 34 ∷ 1 ∷ 1 ∷ 2 ∷ []) 3
+      ∷ check (34 ∷ 1 ∷ 1 ∷ 0 ∷ 66 ∷ 1 ∷ 1 ∷ 2 ∷ []) 3
+      ∷ check (2 ∷ 65 ∷ 1 ∷ 0 ∷ 2 ∷ 33 ∷ 1 ∷ 2 ∷ []) 3
+      ∷ check (2 ∷ 33 ∷ 1 ∷ 0 ∷ 2 ∷ 65 ∷ 1 ∷ 2 ∷ []) 3 ∷ [];
+  expected = checked 0 2 ∷ checked 86 0 ∷ checked 0 2 ∷ checked 86 0 ∷ checked 0 2 ∷ checked 86 0 ∷ checked 0 2 ∷ checked 86 0 ∷ [];
 }
 
--- 4,096 steps; field 17; the smaller field on the left; steps on both sides; steps on the left of a number; one field on both sides. 4,095 steps are allowed, on
--- either side.
+-- 4,096 steps on the right; field 17; the smaller field on the left; steps on both sides; steps on the left of a number; one field on both sides; 4,096 steps on the left.
+-- 4,095 steps are allowed, on either side, and so are field 16 and field 1.
 abbrev pub check-terms : Case
 check-terms = record {
   start = [];
@@ -251,14 +266,16 @@ check-terms = record {
       ∷ check (131074 ∷ 1 ∷ 1 ∷ 0 ∷ []) 2
       ∷ check (2 ∷ 131041 ∷ 1 ∷ 0 ∷ []) 2
       ∷ check (16 ∷ 131055 ∷ 1 ∷ 0 ∷ []) 2
-      ∷ check (131042 ∷ 1 ∷ 1 ∷ 0 ∷ []) 2 ∷ [];
+      ∷ check (131042 ∷ 1 ∷ 1 ∷ 0 ∷ []) 2
+      ∷ check (1 ∷ 0 ∷ 1 ∷ 0 ∷ []) 2 ∷ [];
   expected =
       checked 82 0 ∷ checked 82 0 ∷ checked 82 0 ∷ checked 82 0 ∷ checked 82 0 ∷ checked 82 0 ∷ checked 82 0
-      ∷ checked 0 2 ∷ checked 0 2 ∷ checked 0 2 ∷ [];
+      ∷ checked 0 2 ∷ checked 0 2 ∷ checked 0 2 ∷ checked 0 2 ∷ [];
 }
 
 -- A handle that is its entry's own, and one that is far above; such a handle before a term that is not simplified: terms are tested over the whole table first. Equal
--- entries, whichever is the root. An entry that no handle names, one above the root, and any entry below a leaf.
+-- entries, whichever is the root. An entry that no handle names, one above the root, and any entry, where the root is a leaf. A no handle that is its entry's own. Such
+-- handles in equal entries and after them: handles are tested over the whole table first. Rule 3 applies, and a later entry is not reached: that is tested first.
 abbrev pub check-handles : Case
 check-handles = record {
   start = [];
@@ -270,8 +287,14 @@ check-handles = record {
       ∷ check (3 ∷ 2 ∷ 1 ∷ 0 ∷ 3 ∷ 2 ∷ 1 ∷ 0 ∷ []) 2
       ∷ check (3 ∷ 2 ∷ 1 ∷ 0 ∷ 2 ∷ 1 ∷ 1 ∷ 0 ∷ []) 3
       ∷ check (3 ∷ 2 ∷ 1 ∷ 0 ∷ 2 ∷ 1 ∷ 2 ∷ 0 ∷ []) 2
-      ∷ check (3 ∷ 2 ∷ 1 ∷ 0 ∷ []) 1 ∷ [];
-  expected = checked 83 0 ∷ checked 83 0 ∷ checked 82 0 ∷ checked 84 0 ∷ checked 84 0 ∷ checked 85 0 ∷ checked 85 0 ∷ checked 85 0 ∷ [];
+      ∷ check (3 ∷ 2 ∷ 1 ∷ 0 ∷ []) 1
+      ∷ check (2 ∷ 1 ∷ 1 ∷ 2 ∷ []) 2
+      ∷ check (2 ∷ 1 ∷ 2 ∷ 0 ∷ 2 ∷ 1 ∷ 2 ∷ 0 ∷ []) 3
+      ∷ check (3 ∷ 2 ∷ 1 ∷ 0 ∷ 3 ∷ 2 ∷ 1 ∷ 0 ∷ 2 ∷ 1 ∷ 4 ∷ 0 ∷ []) 4
+      ∷ check (2 ∷ 1 ∷ 1 ∷ 1 ∷ 3 ∷ 1 ∷ 1 ∷ 0 ∷ []) 2 ∷ [];
+  expected =
+      checked 83 0 ∷ checked 83 0 ∷ checked 82 0 ∷ checked 84 0 ∷ checked 84 0 ∷ checked 85 0 ∷ checked 85 0 ∷ checked 85 0
+      ∷ checked 83 0 ∷ checked 83 0 ∷ checked 83 0 ∷ checked 85 0 ∷ [];
 }
 
 -- Entries that differ in one word alone are not equal: the left term, the right term, the yes handle, the no handle.

@@ -8,14 +8,14 @@ use native.Mathlib.Omega.{arith}
 use borrow.Author.Tests.{le-leb, lt-leb, leb-true, ltb-true, eq-eqb, ne-eqb}
 use lib.Dec.{eqb, leb, ltb}
 use lib.ListN.{length}
-use Rattle.checking.specs.Needs.{Fits, Falling, Rooted, Sized}
+use Rattle.checking.specs.Needs.{Fits, AllHaveParts, Rooted, Sized}
 use Rattle.normal_form.specs.declared.answer.CheckFault.the-variants.{BadShape, BadTerm, HandleNotLower, EqualEntries, NotReachable, RuleApplies}
 use Rattle.normal_form.specs.declared.answer.Checked.{Checked}
 use Rattle.normal_form.specs.declared.answer.Checked.the-variants.{Never, Always, Sometimes, Refused}
 use Rattle.normal_form.specs.Check.{shape-kept, terms-kept, handles-lower, entries-differ, all-reachable, parts-ordered, left-apart, no-rule-applies, root-verdict, check-diagram, check-entries, check}
 use Rattle.normal_form.specs.Limits.{most-entries, table-limits}
 use Rattle.normal_form.specs.Table.{entry-length, entry-count, entry}
-use Rattle.normal_form.proofs.Kept.{lower-yes, lower-no}
+use Rattle.normal_form.proofs.PassesKept.{lower-yes, lower-no}
 use Rattle.store.specs.Layout.{leaves}
 use Rattle.store.specs.Sound.{all-below}
 use Rattle.store.proofs.Tests.{first-passes, second-passes, all-below-says}
@@ -50,7 +50,7 @@ module _ (t : List ℕ) (root : ℕ) where
       }
 
 -- ---- the rules
-module _ {t : List ℕ} {count : ℕ} (k : Falling t count) {a : Bool} (ea : a ≡ all-below count (parts-ordered t)) where
+module _ {t : List ℕ} {count : ℕ} (k : AllHaveParts t count) {a : Bool} (ea : a ≡ all-below count (parts-ordered t)) where
   ordered : a ≡ all-below (entry-count t) (parts-ordered t)
   ordered = ea ∙ ap (λ n. all-below n (parts-ordered t)) (k .whole)
 
@@ -76,7 +76,7 @@ module _ (root : ℕ) where
 -- ---- 84 to 86
 module _ {t : List ℕ} {root count : ℕ} (r : Rooted t root count) {a : Bool} (ea : a ≡ entries-differ t count) where
   differ : a ≡ entries-differ t (entry-count t)
-  differ = ea ∙ ap (entries-differ t) (r .falling .whole)
+  differ = ea ∙ ap (entries-differ t) (r .entries .whole)
 
   pub says-equal : a ≡ false → Refused EqualEntries ≡ check-diagram table-limits t root
   unfolding check-diagram
@@ -129,7 +129,7 @@ module _ {t : List ℕ} {root count : ℕ} (z : Sized t root count) where
       let lower = all-below-says (λ i. handles-lower (entry t i) i) count (sym eb ∙ s) in
       let fits = sized-fits in
       record {
-        falling = record {
+        entries = record {
           whole = z .whole;
           parts = λ i h. record {
             fits = fits-less i fits h;

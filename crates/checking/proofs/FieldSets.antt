@@ -13,7 +13,8 @@ use lib.Dec.{eqb}
 use lib.ListN.{length, getD, length-set, length-replicate}
 use lib.Pow.{pow-pos, pow-lt, pow-add, shl-exact}
 use lib.Seq.{getD-set-same, getD-set-other}
-use Rattle.checking.specs.Needs.{most-handles, bits, has-field, both-fields, fields-at, field-sets}
+use Rattle.checking.specs.FieldSets.{has-field, both-fields, fields-at, field-sets}
+use Rattle.checking.specs.Needs.{most-handles, bits}
 use Rattle.normal_form.proofs.Marks.{all-alike}
 use Rattle.normal_form.proofs.NamedFlags.{flags-length}
 use Rattle.normal_form.specs.Limits.{most-entries, table-limits}

@@ -39,7 +39,7 @@ pub record Marking (t : List ℕ) (root count : ℕ) (marks : List Bool) (k : �
 
 module _ {t : List ℕ} {root count : ℕ} (r : Rooted t root count) where
   pub root-flagged : root < most-handles
-  root-flagged = omega (arith, r .root-low, r .falling .fits .few)
+  root-flagged = omega (arith, r .root-low, r .entries .fits .few)
 
   pub marking-begins : {marks : List Bool} → marks ≡ replicate most-handles false → Marking t root count (set marks root true) count
   unfolding reachable
@@ -47,12 +47,12 @@ module _ {t : List ℕ} {root count : ℕ} (r : Rooted t root count) where
       record {
         up-to = omega arith;
         size = length-set marks root true ∙ ap length e ∙ length-replicate most-handles false;
-        left = rw (e, r .falling .whole);
+        left = rw (e, r .entries .whole);
       }
 
   module _ {marks : List Bool} {k : ℕ} (m : Marking t root count marks k) where
     pub marking-parts : 0 < k → HasParts t (k - 1)
-    marking-parts h = r .falling .parts (k - 1) (omega (arith, m .up-to))
+    marking-parts h = r .entries .parts (k - 1) (omega (arith, m .up-to))
 
     pub marking-next : {next : List Bool} → 0 < k → next ≡ mark-parts t (k - 1) marks → Marking t root count next (k - 1)
     unfolding marks-down
@@ -71,4 +71,4 @@ module _ {t : List ℕ} {root count : ℕ} (r : Rooted t root count) where
   pub by-marks : {marks : List Bool} {b : Bool} → marks ≡ reachable table-limits t root → b ≡ all-below count (λ i. getD marks (i + leaves) false)
       → b ≡ all-reachable table-limits t root
   unfolding all-reachable
-  by-marks em eb = eb ∙ rw (em, r .falling .whole)
+  by-marks em eb = eb ∙ rw (em, r .entries .whole)

@@ -7,7 +7,8 @@ use native.Mathlib.Numerals.{add-one}
 use native.Mathlib.Omega.{arith}
 use lib.Bits.{bitOr}
 use lib.ListN.{length, getD, set, replicate, length-set, length-replicate}
-use Rattle.checking.specs.Needs.{most-handles, bits, has-field, both-fields, SmallFields, Falling, AllNamed, fields-at, field-sets}
+use Rattle.checking.specs.FieldSets.{has-field, both-fields, fields-at, field-sets}
+use Rattle.checking.specs.Needs.{most-handles, bits, SmallFields, AllHaveParts, AllNamed}
 use Rattle.normal_form.specs.declared.entry.Entry.{Entry}
 use Rattle.normal_form.specs.Check.{left-apart}
 use Rattle.normal_form.specs.Limits.{table-limits}
@@ -58,7 +59,7 @@ module _ {t : List ℕ} {count : ℕ} {sets : List ℕ} where
           are = rw (add-one, e, m .are);
         }
 
-    pub naming-ends : Falling t count → count ≤ i → AllNamed t sets
+    pub naming-ends : AllHaveParts t count → count ≤ i → AllNamed t sets
     naming-ends k h =
         let u = m .up-to in
         let d : i ≡ entry-count t = omega (arith, k .whole) in

@@ -1,20 +1,19 @@
 -- What the code relies on, and no claim.
-use Prim.Native.Nat.{ℕ, zero, suc, _+_, _-_, _*_, _/_, _%_, _≤_, _<_, _^_}
+use Prim.Native.Nat.{ℕ, _+_, _-_, _*_, _/_, _%_, _≤_, _<_}
 use mathlib.Core.Path.{_≡_}
 use mathlib.Core.Bool.{Bool, not}
 use mathlib.Core.List.{List}
-use lib.Bits.{bitOr}
-use lib.Dec.{eqb}
-use lib.ListN.{length, getD, set, replicate}
+use lib.ListN.{length, replicate}
 use Rattle.index.specs.Needs.{Chains}
 use Rattle.normal_form.specs.declared.entry.Entry.{Entry}
 use Rattle.normal_form.specs.Check.{same-entry}
 use Rattle.normal_form.specs.Limits.{most-entries, table-limits}
 use Rattle.normal_form.specs.Reachable.{flag-count}
-use Rattle.normal_form.specs.Table.{entry-length, entry-count, entry, asks}
+use Rattle.normal_form.specs.Table.{entry-length, entry-count, entry}
 use Rattle.store.specs.Layout.{leaves}
 use Rattle.store.specs.Sound.{all-below}
 use Rattle.terms.specs.declared.term.Equation.{Equation}
+use Rattle.checking.specs.FieldSets.{field-sets}
 
 -- ---- entries
 -- the flags of a pass: one for each handle that the limits allow
@@ -41,14 +40,14 @@ pub record HasParts (t : List ℕ) (i : ℕ) : Type 0 where
   pub no-low : entry t i .no < i + leaves
 
 -- these are the entries of the table, and each has handles lower than its own
-pub record Falling (t : List ℕ) (count : ℕ) : Type 0 where
+pub record AllHaveParts (t : List ℕ) (count : ℕ) : Type 0 where
   pub whole : count ≡ entry-count t
   pub parts : (i : ℕ) → i < count → HasParts t i
   pub fits : Fits t count
 
 -- the same, and the root is one of the handles
 pub record Rooted (t : List ℕ) (root count : ℕ) : Type 0 where
-  pub falling : Falling t count
+  pub entries : AllHaveParts t count
   pub root-low : root < count + leaves
 
 -- these are the entries of the table, the arrays have room for them, and the root is one of their handles
@@ -92,30 +91,15 @@ pub record Searchable (t : List ℕ) (k : ℕ) (lasts links : List ℕ) : Type 0
 unfoldable pub none-equal : List ℕ → ℕ → Entry → Bool
 none-equal t k e = all-below k (λ j. not (same-entry (entry t j) e))
 
--- ---- sets of fields: a number whose binary digit f stands for field f
+-- ---- sets of fields
 -- the digits of a word
 abbrev pub bits : ℕ
 bits = 32
-
-abbrev pub has-field : ℕ → ℕ → Bool
-has-field f fields = eqb (fields / 2 ^ f % 2) 1
 
 -- both fields of an equation have a digit
 pub record SmallFields (g : Equation) : Type 0 where
   pub left-small : g .left .field .0 < bits
   pub right-small : g .right .field .0 < bits
-
-abbrev pub both-fields : Equation → ℕ
-both-fields g = bitOr (2 ^ (g .left .field .0)) (2 ^ (g .right .field .0))
-
--- the fields named at or below the i-th entry, by the sets of lower handles
-unfoldable pub fields-at : List ℕ → ℕ → List ℕ → ℕ
-fields-at t i sets = let e = entry t i in bitOr (both-fields (asks e)) (bitOr (getD sets (e .yes) 0) (getD sets (e .no) 0))
-
--- the fields named at or below each handle, after the first k entries
-unfoldable pub field-sets : List ℕ → ℕ → List ℕ
-field-sets t zero = replicate most-handles 0
-field-sets t (suc k) = set (field-sets t k) (k + leaves) (fields-at t k (field-sets t k))
 
 -- the sets after all entries, of which there are not too many
 pub record AllNamed (t : List ℕ) (sets : List ℕ) : Type 0 where

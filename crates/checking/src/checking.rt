@@ -1,6 +1,6 @@
 // The check, in the order of its numbers. No entry is read by a handle before every handle is known to be lower than its entry's own.
 ghost use mathlib.Core.Path.{_≡_};
-ghost use Rattle.checking.specs.Needs.{Falling, Rooted, Sized};
+ghost use Rattle.checking.specs.Needs.{AllHaveParts, Rooted, Sized};
 ghost use Rattle.normal_form.specs.Check as rule;
 ghost use Rattle.normal_form.specs.Limits.{table-limits};
 use crate::differing::entries_differ;
@@ -31,7 +31,7 @@ fn shape_kept(t: &[u32], root: u32) -> bool
 
 // Number 86: whether none of Definition 28's rules applies.
 fn no_rule_applies(t: &[u32], count: usize) -> bool
-    requires { ⌜ Falling (now t) count ⌝ }
+    requires { ⌜ AllHaveParts (now t) count ⌝ }
     ensures { λ r. ⌜ r ≡ rule.no-rule-applies table-limits (now (t .entry)) ⌝ }
 {
     if all_ordered(t, count) {

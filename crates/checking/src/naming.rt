@@ -1,8 +1,9 @@
-// Number 86, rule 8': the left field of an entry is not named in its yes part. Handles are lower than their entry's own, so one pass up finds
-// the fields named at or below each handle, all of them at once; a second pass looks the left fields up.
+// Number 86, for rule 8': an entry whose left field is named in its yes part. Handles are lower than their entry's own, so one pass up finds the
+// fields named at or below each handle, all of them at once; a second pass looks the left fields up.
 ghost use mathlib.Core.Path.{_≡_};
 ghost use lib.ListN.{replicate};
-ghost use Rattle.checking.specs.Needs.{most-handles, HasParts, Falling, AllNamed, fields-at};
+ghost use Rattle.checking.specs.FieldSets.{fields-at};
+ghost use Rattle.checking.specs.Needs.{most-handles, HasParts, AllHaveParts, AllNamed};
 ghost use Rattle.normal_form.specs.Check as rule;
 ghost use Rattle.normal_form.specs.Limits.{table-limits};
 ghost use Rattle.store.specs.Sound.{all-below};
@@ -31,7 +32,7 @@ fn fields_at(t: &[u32], i: usize, sets: &FieldSets) -> u32
 
 // Finds the fields named at or below each handle.
 fn name_up(t: &[u32], count: usize, sets: &mut FieldSets)
-    requires { ⌜ Falling (now t) count ⌝ }
+    requires { ⌜ AllHaveParts (now t) count ⌝ }
     requires { ⌜ now sets ≡ replicate most-handles 0 ⌝ }
     ensures { λ r. ⌜ AllNamed (now (t .entry)) (now (sets .exit)) ⌝ }
 {
@@ -43,7 +44,7 @@ fn name_up(t: &[u32], count: usize, sets: &mut FieldSets)
     }
 }
 
-// Whether rule 8' does not apply at the i-th entry.
+// Whether the left field of the i-th entry is not named in its yes part.
 fn left_apart(t: &[u32], i: usize, sets: &FieldSets) -> bool
     requires { ⌜ HasParts (now t) i ⌝ }
     requires { ⌜ AllNamed (now t) (now sets) ⌝ }
@@ -58,9 +59,9 @@ fn left_apart(t: &[u32], i: usize, sets: &FieldSets) -> bool
     true
 }
 
-// Whether it applies at no entry, by the fields named at or below each handle.
+// Whether this is so of each entry, by the fields named at or below each handle.
 fn all_apart(t: &[u32], count: usize, sets: &FieldSets) -> bool
-    requires { ⌜ Falling (now t) count ⌝ }
+    requires { ⌜ AllHaveParts (now t) count ⌝ }
     requires { ⌜ AllNamed (now t) (now sets) ⌝ }
     ensures { λ r. ⌜ r ≡ all-below count (rule.left-apart table-limits (now (t .entry))) ⌝ }
 {
@@ -75,9 +76,9 @@ fn all_apart(t: &[u32], count: usize, sets: &FieldSets) -> bool
     true
 }
 
-// Whether it applies at no entry.
+// Whether no entry's left field is named in its yes part.
 pub fn lefts_apart(t: &[u32], count: usize) -> bool
-    requires { ⌜ Falling (now t) count ⌝ }
+    requires { ⌜ AllHaveParts (now t) count ⌝ }
     ensures { λ r. ⌜ r ≡ all-below count (rule.left-apart table-limits (now (t .entry))) ⌝ }
 {
     let mut sets = [0u32; HANDLES];

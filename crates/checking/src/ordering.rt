@@ -1,6 +1,6 @@
-// Number 86, rules 3 to 7: the two parts of an entry differ, and each asks after it.
+// Number 86, rules 3 to 7: an entry whose two parts are the same, or that has a part which doesn't ask after it.
 ghost use mathlib.Core.Path.{_≡_};
-ghost use Rattle.checking.specs.Needs.{NamesEntry, HasParts, Falling};
+ghost use Rattle.checking.specs.Needs.{NamesEntry, HasParts, AllHaveParts};
 ghost use Rattle.normal_form.specs.Check as rule;
 ghost use Rattle.store.specs.Sound.{all-below};
 use crate::entries::entry_of;
@@ -40,7 +40,7 @@ fn parts_ordered(t: &[u32], i: usize) -> bool
 
 // Whether they apply at no entry.
 pub fn all_ordered(t: &[u32], count: usize) -> bool
-    requires { ⌜ Falling (now t) count ⌝ }
+    requires { ⌜ AllHaveParts (now t) count ⌝ }
     ensures { λ r. ⌜ r ≡ all-below count (rule.parts-ordered (now (t .entry))) ⌝ }
 {
     let mut i: usize = 0;

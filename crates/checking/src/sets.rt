@@ -1,7 +1,8 @@
 // A set of fields in one word: the bit f stands for field f.
 ghost use mathlib.Core.Path.{_≡_};
 ghost use Prim.Native.Nat.{_<_, _^_};
-ghost use Rattle.checking.specs.Needs.{bits, both-fields, has-field, SmallFields};
+ghost use Rattle.checking.specs.FieldSets.{both-fields, has-field};
+ghost use Rattle.checking.specs.Needs.{bits, SmallFields};
 use terms::Equation;
 
 // The set of one field.

@@ -12,14 +12,10 @@ use Rattle.terms.specs.Meaning.{Valuation, truth}
 use Rattle.terms.proofs.Cases.{by-test}
 use Rattle.store.specs.Layout.{leaves}
 use Rattle.store.proofs.ByHandles.{by-handle}
+use Rattle.normal_form.specs.Falling.{Falling}
 use Rattle.normal_form.specs.Meaning.{next, follow, meaning}
 use Rattle.normal_form.specs.Table.{entry, asks}
 use Rattle.normal_form.specs.Tree.{leaf, ite, tree-within, tree, tree-truth}
-
--- the handles of the first m entries are lower than their own
-pub record Falling (t : List ℕ) (m : ℕ) : Type 0 where
-  pub yes-below : (i : ℕ) → i < m → entry t i .yes < i + leaves
-  pub no-below : (i : ℕ) → i < m → entry t i .no < i + leaves
 
 module _ {t : List ℕ} {m : ℕ} (f : Falling t m) (P : ℕ → Type 0) (at-leaf : (h : ℕ) → h < leaves → P h)
     (at-entry : (i : ℕ) → i < m → P (entry t i .yes) → P (entry t i .no) → P (i + leaves)) where

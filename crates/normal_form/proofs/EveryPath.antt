@@ -11,12 +11,13 @@ use Rattle.store.specs.Layout.{leaves}
 use Rattle.terms.specs.Meaning.{Valuation}
 use Rattle.normal_form.specs.Accepted.{Accepted}
 use Rattle.normal_form.specs.Followed.{Followed}
+use Rattle.normal_form.specs.Kept.{Kept}
 use Rattle.normal_form.specs.Meaning.{meaning}
 use Rattle.normal_form.specs.Paths.{Path, facts-of, end-of, followed}
 use Rattle.normal_form.specs.Tree.{leaf, tree, tree-truth}
 use Rattle.normal_form.specs.VerdictExact.{SomeButNotAll}
 use Rattle.normal_form.proofs.ByHandles.{tree-leaf, tree-entry, meaning-is-tree}
-use Rattle.normal_form.proofs.Kept.{Kept, passes-kept}
+use Rattle.normal_form.proofs.PassesKept.{passes-kept}
 use Rattle.normal_form.proofs.NormalTable.{passes-sorted, passes-apart}
 use Rattle.normal_form.proofs.NormalTree.{path-fits, fits-follows, truth-at-end, bare, both, ends}
 use Rattle.normal_form.proofs.PathSheet.{sheet-of}

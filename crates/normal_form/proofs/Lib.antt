@@ -3,7 +3,7 @@ pub mod NormalTree
 pub mod ByHandles
 pub mod Marks
 pub mod NamedFlags
-pub mod Kept
+pub mod PassesKept
 pub mod OneHandle
 pub mod NormalTable
 pub mod RulesExactly

@@ -13,9 +13,9 @@ use lib.Seq.{getD-set-same, getD-set-other}
 use Rattle.terms.proofs.Cases.{by-test}
 use Rattle.store.specs.Layout.{leaves}
 use Rattle.normal_form.specs.declared.limits.TableLimits.{TableLimits}
+use Rattle.normal_form.specs.Falling.{Falling}
 use Rattle.normal_form.specs.Reachable.{Reaches, itself, by-yes, by-no, flag-count, mark-parts, marks-down, reachable}
 use Rattle.normal_form.specs.Table.{entry-count, entry}
-use Rattle.normal_form.proofs.ByHandles.{Falling}
 
 abbrev Marked : List Bool → ℕ → Type 0
 Marked marks g = getD marks g false ≡ true

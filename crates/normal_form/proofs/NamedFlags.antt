@@ -13,12 +13,13 @@ use lib.Seq.{getD-set-same, getD-set-other}
 use Rattle.terms.specs.Words.{field}
 use Rattle.store.specs.Layout.{leaves}
 use Rattle.normal_form.specs.declared.limits.TableLimits.{TableLimits}
+use Rattle.normal_form.specs.Falling.{Falling}
 use Rattle.normal_form.specs.Named.{named}
 use Rattle.normal_form.specs.Reachable.{flag-count}
 use Rattle.normal_form.specs.Rules.{names, Names, SomeAsks}
 use Rattle.normal_form.specs.Table.{entry-count, entry, asks}
 use Rattle.normal_form.specs.Tree.{tree}
-use Rattle.normal_form.proofs.ByHandles.{Falling, by-handles, tree-leaf, tree-entry}
+use Rattle.normal_form.proofs.ByHandles.{by-handles, tree-leaf, tree-entry}
 use Rattle.normal_form.proofs.Marks.{all-alike}
 
 either-exact : {A B : Type 0} {a b : Bool} → (a ≡ true) ↔ A → (b ≡ true) ↔ B → ((a || b) ≡ true) ↔ (A ⊎ B)

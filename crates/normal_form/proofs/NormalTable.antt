@@ -22,6 +22,7 @@ use Rattle.terms.proofs.Cases.{by-test}
 use Rattle.terms.proofs.Numbers.{equations-equal}
 use Rattle.terms.proofs.QuestionOrder.{fields-first-strict-total}
 use Rattle.normal_form.specs.Check.{asks-after, parts-ordered, left-apart, no-rule-applies}
+use Rattle.normal_form.specs.Kept.{Kept}
 use Rattle.normal_form.specs.Limits.{table-limits}
 use Rattle.normal_form.specs.Named.{named}
 use Rattle.normal_form.specs.Reachable.{Reaches, itself, by-yes, by-no}
@@ -29,7 +30,6 @@ use Rattle.normal_form.specs.Rules.{Precedes, Names, RootAsks, SomeAsks,
 use Rattle.normal_form.specs.Table.{entry-count, entry, asks}
 use Rattle.normal_form.specs.Tree.{Tree, ite, tree}
 use Rattle.normal_form.proofs.ByHandles.{by-handles, tree-leaf, tree-entry}
-use Rattle.normal_form.proofs.Kept.{Kept}
 use Rattle.normal_form.proofs.NamedFlags.{named-exact}
 use Rattle.normal_form.proofs.NormalTree.{Each, Sorted, Apart, Unnamed, RootAfter, after-root, none-each, some-and, no-rule}
 use Rattle.normal_form.proofs.OneHandle.{one-handle}

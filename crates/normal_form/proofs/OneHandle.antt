@@ -14,10 +14,10 @@ use Rattle.terms.specs.Words.{word-of}
 use Rattle.terms.proofs.Cases.{by-eq}
 use Rattle.terms.proofs.TermWords.{word-of-term-of}
 use Rattle.normal_form.specs.declared.entry.Entry.{Entry}
+use Rattle.normal_form.specs.Kept.{Kept}
 use Rattle.normal_form.specs.Table.{entry-count, entry, asks}
 use Rattle.normal_form.specs.Tree.{ite, tree}
 use Rattle.normal_form.proofs.ByHandles.{by-handles, tree-leaf, tree-entry}
-use Rattle.normal_form.proofs.Kept.{Kept}
 
 leaf-alike : (t : List ℕ) (g h : ℕ) → g < leaves → h < leaves → tree t g ≡ tree t h → g ≡ h
 leaf-alike t g h k l e =

@@ -14,20 +14,14 @@ use Rattle.facts.specs.declared.fact.Fact.{Fact}
 use Rattle.facts.specs.Facts.{Fits}
 use Rattle.terms.specs.declared.term.Equation.{Equation}
 use Rattle.terms.specs.declared.term.Field.{Field}
-use Rattle.terms.specs.Form.{SimplifiedForm}
 use Rattle.terms.specs.Meaning.{Valuation, count, value, truth}
 use Rattle.terms.proofs.Cases.{by-test, by-eq}
 use Rattle.terms.proofs.Numbers.{equations-equal}
 use Rattle.terms.proofs.SimplifyForm.{smaller-right, bare-side, bare-left}
+use Rattle.normal_form.specs.Kept.{Asked}
 use Rattle.normal_form.specs.Limits.{most-steps}
 
 -- ---- what a path of a normal form is like
--- a simplified question within the steps that a table may have
-pub record Asked (q : Equation) : Type 0 where
-  pub form : SimplifiedForm q
-  pub left-steps : q .left .steps .0 ≤ most-steps
-  pub right-steps : q .right .steps .0 ≤ most-steps
-
 -- a fact, and one that comes later on a path
 pub record Before (x z : Fact) : Type 0 where
   pub left-rises : x .question .left .field .0 ≤ z .question .left .field .0

@@ -19,7 +19,7 @@ use Rattle.normal_form.specs.Limits.{table-limits}
 use Rattle.normal_form.specs.Rules.{Applies}
 use Rattle.normal_form.specs.Table.{entry-count, entry}
 use Rattle.normal_form.specs.Tree.{tree}
-use Rattle.normal_form.proofs.Kept.{passes-kept}
+use Rattle.normal_form.proofs.PassesKept.{passes-kept}
 use Rattle.normal_form.proofs.NormalTable.{fails-applies, passes-none}
 
 -- a condition that is tested first: the answer is no refusal only if it passes, and then what comes after it answers

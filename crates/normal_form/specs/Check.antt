@@ -47,13 +47,13 @@ all-reachable limits t root = all-below (entry-count t) (λ i. getD (reachable l
 abbrev pub asks-after : List ℕ → Equation → ℕ → Bool
 asks-after t g handle = cond (ltb handle leaves) true (before fields-first g (asks (entry t (handle - leaves))))
 
--- rules 3 to 7 at the i-th entry
+-- none of rules 3 to 7 applies at the i-th entry
 unfoldable pub parts-ordered : List ℕ → ℕ → Bool
 parts-ordered t i =
     let e = entry t i in
     not (eqb (e .yes) (e .no)) && asks-after t (asks e) (e .yes) && asks-after t (asks e) (e .no)
 
--- Rule 8' at the i-th entry: its left field is not named in its yes part. That an equation which names it is after the entry's needs no test: if rules 4 to 7 apply nowhere,
+-- For rule 8': the left field of the i-th entry is not named in its yes part. That an equation which names it is after the entry's needs no test: if rules 4 to 7 apply nowhere,
 -- every equation of a part is (theorem `rules-exactly`).
 unfoldable pub left-apart : TableLimits → List ℕ → ℕ → Bool
 left-apart limits t i =

@@ -9,7 +9,7 @@ use Rattle.normal_form.specs.Paths.{Path, facts-of, end-of, followed}
 use Rattle.normal_form.specs.Tree.{tree}
 
 -- Some choice of counts gives each equation of the path the answer that the path takes; so following the truth of the equations takes that path, and the
--- handle's meaning is the leaf at its end.
+-- handle's meaning is the leaf at its end. (`Fits` does not depend on the order of the facts.)
 pub record Followed (t : List ℕ) (handle : ℕ) (p : Path (tree t handle)) : Type 0 where
   pub counts : Valuation
   pub answers : Fits (facts-of (tree t handle) p) counts

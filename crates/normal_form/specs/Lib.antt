@@ -1,6 +1,7 @@
 pub mod Limits
 pub mod Table
 pub mod Meaning
+pub mod Falling
 pub mod Tree
 pub mod Paths
 pub mod Rules
@@ -9,5 +10,6 @@ pub mod Reachable
 pub mod Named
 pub mod Check
 pub mod Accepted
+pub mod Kept
 pub mod Followed
 pub mod VerdictExact

@@ -1,4 +1,5 @@
--- The limits of a table (document 02, vii), each in this place alone. They are the aerial desk's, and do not move with those of terms and stores.
+-- The limits of a table (document 02, vii). Steps and entries are the aerial desk's, stand in this place alone, and do not move with those of terms and stores; 16 is the sheet's
+-- number of fields.
 use Prim.Native.Nat.{ℕ}
 use Rattle.terms.specs.Limits.{most-fields}
 use Rattle.terms.specs.Words.{field, steps}

@@ -43,7 +43,7 @@ pub data RuleAt (g : Equation) (y n : Tree) : Type 0 where
   rule-6 : RootAsks (λ h. Precedes h g) y → RuleAt g y n
   -- 7. ITE(g1, T1, ITE(g2, T2, T3)) provided g1 ≻ g2
   rule-7 : RootAsks (λ h. Precedes h g) n → RuleAt g y n
-  -- 8'. ITE(S^m(y) = S^n(x), C[g], T) provided y occurs in g and S^m(y) = S^n(x) ≺ g
+  -- 8'. ITE(S^m(y) = S^n(x), C[g], T) provided y occurs in g and S^m(y) = S^n(x) ≺ g; C is any diagram that is simplified, as 82 sees to
   rule-8 : SomeAsks (λ h. Names (g .left .field) h × Precedes g h) y → RuleAt g y n
 
 -- a rule applies in a diagram, at its root or within

@@ -1,4 +1,4 @@
-// The limits of a table, each in this place alone.
+// The limits of a table. Steps and entries stand in this place alone; 16 is the sheet's number of fields.
 ghost use mathlib.Core.Path.{_≡_};
 ghost use Rattle.normal_form.specs.Limits as spec;
 use terms::Field;

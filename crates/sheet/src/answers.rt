@@ -1,4 +1,4 @@
-// Answers in document 01's numbers, laid out as C reads them.
+// Answers in the documents' numbers, laid out as C reads them.
 ghost use mathlib.Core.Path.{_≡_};
 ghost use Rattle.sheet.specs.Answers as spec;
 use examples::Example;

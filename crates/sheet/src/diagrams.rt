@@ -1,4 +1,4 @@
-// The check of another desk's diagrams, from C.
+// The check of another tool's diagrams, from C.
 ghost use mathlib.Core.Path.{_≡_};
 ghost use Rattle.normal_form.specs.Check.{check};
 ghost use Rattle.normal_form.specs.Limits.{table-limits};

@@ -1,5 +1,5 @@
 // The operations as C functions, one for each, with the prototypes of include/sheet.h. The functions do no work of their own: each calls its
-// operation and gives its answer in document 01's numbers.
+// operation and gives its answer in the documents' numbers.
 mod answers;
 mod asking;
 mod changing;

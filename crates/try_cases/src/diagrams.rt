@@ -24,7 +24,8 @@ fn handle_before(i: u32) -> u32
     if i == 0 { 0 } else { i + 1 }
 }
 
-// The i-th entry asks 1 = S^k(0), k being the number of the entries after it; yes is always, and no the entry before it.
+// The i-th entry asks 1 = S^k(0), k being the number of the entries after it; yes is always, and no the entry before it. No chain here is longer than
+// MOST_CHAINED, so the remainder is k itself: it keeps the word in range for any number that a line may give.
 fn put_entry(table: &mut [u32], entries: u32, i: u32)
     requires { ⌜ i < 4097 ⌝ }
 {
@@ -41,7 +42,7 @@ fn put_entries(table: &mut [u32], entries: u32) {
     }
 }
 
-// The last entry is the root.
+// The last entry is the root; the remainder keeps its handle in range, as above.
 fn check_first(table: &[u32], entries: u32) {
     let length = 4 * (entries as usize);
     answer(sheet_check_normal_form(part(table, 0, length), entries % 65536 + 1));

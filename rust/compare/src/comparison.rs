@@ -99,15 +99,15 @@ impl Comparison {
         }
         let paths = Paths::new(table, root);
         let describe = || format!("root {root} of {table:?}, answered with {answer:?}");
-        let (dead, verdict) = (paths.dead_by_bounds(), paths.verdict_by_bounds());
-        self.test("the paths of an accepted diagram, by difference bounds", dead.is_none(), || {
-            format!("{dead:?}, {}", describe())
+        let (unfollowed, verdict) = (paths.unfollowed_by_bounds(), paths.verdict_by_bounds());
+        self.test("the paths of an accepted diagram, by difference bounds", unfollowed.is_none(), || {
+            format!("{unfollowed:?}, {}", describe())
         });
         self.test("the verdict of an accepted diagram, by difference bounds", verdict == answer.result, describe);
         if paths.sheets() <= MOST_SHEETS {
-            let (dead, verdict) = (paths.dead_by_counting(), paths.verdict_by_counting());
-            self.test("the paths of an accepted diagram, trying all counts", dead.is_none(), || {
-                format!("{dead:?}, {}", describe())
+            let (unfollowed, verdict) = (paths.unfollowed_by_counting(), paths.verdict_by_counting());
+            self.test("the paths of an accepted diagram, trying all counts", unfollowed.is_none(), || {
+                format!("{unfollowed:?}, {}", describe())
             });
             self.test("the verdict of an accepted diagram, trying all counts", verdict == answer.result, describe);
         }
@@ -226,7 +226,7 @@ pub fn counting_is_affordable(n: u32, questions: &[Question]) -> bool {
 struct Affordable {
     bounds: bool,
     counting: bool,
-    /// The check of another desk's diagrams, which needs no possible answers but trees.
+    /// The check of another tool's diagrams, which looks at trees, not at possible answers.
     trees: bool,
 }
 
@@ -236,7 +236,7 @@ impl Affordable {
 }
 
 /// Which plain implementations can make a call in some milliseconds. They compare every two entries of a store or table. All but open,
-/// read and write back look at every possible combination of answers, and the check of another desk's diagrams at every path.
+/// read and write back look at every possible combination of answers, and the check of another tool's diagrams at every path.
 fn affordable(call: &Call, store: &[u32]) -> Affordable {
     match call {
         Call::Open { .. } => return Affordable::BOTH,

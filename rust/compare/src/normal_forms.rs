@@ -12,14 +12,14 @@ use crate::random::Random;
 pub type Entry = [u32; 4];
 
 /// All sheets can be tried.
-pub const SMALL: Size = Size { fields: (1, 3), gaps: Gaps::up_to(2), most_questions: 7 };
+const SMALL: Size = Size { fields: (1, 3), gaps: Gaps::up_to(2), most_questions: 7 };
 /// Enough fields for equations to meet in many ways.
-pub const MIDDLE: Size = Size { fields: (3, 7), gaps: Gaps::up_to(2), most_questions: 12 };
+const MIDDLE: Size = Size { fields: (3, 7), gaps: Gaps::up_to(2), most_questions: 12 };
 /// Steps up to the limit, of few sizes.
-pub const FAR: Size =
+const FAR: Size =
     Size { fields: (1, 4), gaps: Gaps { stride: MOST_CHECKED_STEPS / 3, most_strides: 3 }, most_questions: 10 };
 /// All fields and steps.
-pub const WIDE: Size = Size { fields: (9, MOST_FIELDS), gaps: Gaps::up_to(MOST_CHECKED_STEPS), most_questions: 40 };
+const WIDE: Size = Size { fields: (9, MOST_FIELDS), gaps: Gaps::up_to(MOST_CHECKED_STEPS), most_questions: 40 };
 
 pub const SIZES: [Size; 4] = [SMALL, MIDDLE, FAR, WIDE];
 
@@ -177,8 +177,8 @@ pub fn chain(entries: u32) -> Vec<Entry> {
 
 /// A normal form of just so many entries about all sixteen fields, with many shared parts.
 ///
-/// The equations descend. Fields of odd and of even number make a strand each, in which the next entry has the one before as its no part;
-/// its yes part is any entry so far that doesn't name its left field. Field 1 stands in the root alone, which holds the strands together.
+/// The equations descend. Fields of odd and of even number make a chain each, in which the next entry has the one before as its no part;
+/// its yes part is any entry so far that doesn't name its left field. Field 1 stands in the root alone, whose two parts are the chains.
 pub fn large(random: &mut Random, entries: usize) -> Vec<Entry> {
     let mut pairs: HashSet<[u32; 2]> = HashSet::new();
     while pairs.len() + 1 < entries {
@@ -191,21 +191,21 @@ pub fn large(random: &mut Random, entries: usize) -> Vec<Entry> {
     let mut pairs: Vec<[u32; 2]> = pairs.into_iter().collect();
     pairs.sort_by_key(rank);
     let mut growing = Growing::default();
-    let mut strands = [0, 0];
+    let mut chains = [0, 0];
     for [left, right] in pairs.into_iter().rev() {
-        let strand = (left % 32 % 2) as usize;
-        let no = strands[strand];
+        let chain = (left % 32 % 2) as usize;
+        let no = chains[chain];
         let tries = [0; 6].map(|_| random.below(last(&growing.entries) + 1));
         let good = |yes: &u32| *yes != no && growing.named(*yes) >> (left % 32) & 1 == 0;
         let yes = tries.into_iter().find(good).unwrap_or(1);
         growing.push([left, right, yes, no]);
-        strands[strand] = last(&growing.entries);
+        chains[chain] = last(&growing.entries);
     }
-    growing.push([1, 0, strands[0], strands[1]]);
+    growing.push([1, 0, chains[0], chains[1]]);
     growing.entries
 }
 
-/// What can be wrong with a table. Each gives its number, if the table has what it takes and chance doesn't spare it.
+/// What can be wrong with a table. Each gives its number, if the table can have it and its place by chance makes it one.
 #[derive(Clone, Copy, Debug)]
 pub enum Fault {
     WordsTooMany,
@@ -219,7 +219,7 @@ pub enum Fault {
     HandleNotLower,
     Doubled,
     DoubledAtTheEnd,
-    Loose,
+    NotReferredTo,
     Dropped,
     SameParts,
     PartsExchanged,
@@ -242,7 +242,7 @@ pub const FAULTS: [(Fault, u32); 19] = [
     (Fault::HandleNotLower, 83),
     (Fault::Doubled, 84),
     (Fault::DoubledAtTheEnd, 84),
-    (Fault::Loose, 85),
+    (Fault::NotReferredTo, 85),
     (Fault::Dropped, 85),
     (Fault::SameParts, 86),
     (Fault::PartsExchanged, 86),
@@ -262,7 +262,7 @@ pub fn damaged(random: &mut Random, entries: &[Entry], fault: Fault) -> Vec<u32>
         Fault::WordsTooMany | Fault::WordsTooFew | Fault::AnyBits => {}
         Fault::Field | Fault::Steps | Fault::TurnedRound => damage_term(random, &mut entries, fault),
         Fault::CommonSteps | Fault::StepsAgainstZero | Fault::EqualSides => damage_term(random, &mut entries, fault),
-        Fault::Doubled | Fault::DoubledAtTheEnd | Fault::Loose | Fault::Dropped => {
+        Fault::Doubled | Fault::DoubledAtTheEnd | Fault::NotReferredTo | Fault::Dropped => {
             entries = with_other_entries(random, &entries, fault)
         }
         _ => damage_entry(random, &mut entries, fault),
@@ -331,14 +331,16 @@ fn with_other_entries(random: &mut Random, entries: &[Entry], fault: Fault) -> V
         entries.iter().map(move |[left, right, yes, no]| [*left, *right, move_part(*yes), move_part(*no)])
     };
     let mut made: Vec<Entry> = match fault {
-        Fault::Doubled | Fault::Loose => moved(|part| part + 1).collect(),
+        Fault::Doubled | Fault::NotReferredTo => moved(|part| part + 1).collect(),
         Fault::Dropped => moved(|part| part - 1).collect(),
         _ => entries.to_vec(),
     };
     match fault {
         Fault::Doubled => made.insert(at, entries[at]),
         Fault::DoubledAtTheEnd => made.push(entries[at]),
-        Fault::Loose => made.insert(at, [MOST_FIELDS, Term { field: 15, steps: random.below(4_096) }.word(), 0, 1]),
+        Fault::NotReferredTo => {
+            made.insert(at, [MOST_FIELDS, Term { field: 15, steps: random.below(4_096) }.word(), 0, 1])
+        }
         _ => drop(made.remove(at)),
     }
     made

@@ -1,4 +1,4 @@
-//! The eleven operations, written a second time from documents 01 and 02 alone, and from document 000 where these cite it.
+//! The eleven operations, written a second time from documents 01 and 02, from document 000 where these cite it, and from nothing else.
 //!
 //! The proved library keeps the facts of a path as classes of fields with offsets. Nothing here does:
 //!

@@ -146,7 +146,7 @@ pub struct Paths {
     tree: Rc<Tree>,
     fields: u32,
     questions: Vec<Question>,
-    pub paths: Vec<Path>,
+    paths: Vec<Path>,
 }
 
 impl Paths {
@@ -181,14 +181,14 @@ impl Paths {
     }
 
     /// The first path that no sheet follows, found by trying all sheets for each path.
-    pub fn dead_by_counting(&self) -> Option<&Path> {
+    pub fn unfollowed_by_counting(&self) -> Option<&Path> {
         let sheets: Vec<Vec<u64>> = self.all_sheets().collect();
         let follows = |path: &Path, sheet: &[u64]| path.facts.iter().all(|(guard, yes)| is_true(guard, sheet) == *yes);
         self.paths.iter().find(|path| !sheets.iter().any(|sheet| follows(path, sheet)))
     }
 
     /// The first path that no sheet follows, found by difference bounds.
-    pub fn dead_by_bounds(&self) -> Option<&Path> {
+    pub fn unfollowed_by_bounds(&self) -> Option<&Path> {
         self.paths.iter().find(|path| !fits(self.fields, &path.facts))
     }
 

@@ -3,7 +3,8 @@ use crate::{words, Equation, Handle, Refusal, Verdict};
 
 /// An entry of a table of diagrams: an equation, and the handles to go on with.
 ///
-/// Unlike an entry of a store its equation stands on no list. It must be simplified, and may have up to 4,095 steps.
+/// Unlike an entry of a store its equation stands on no list. It must be simplified (the larger field left, steps on one side at most, none
+/// left against zero), and may have up to 4,095 steps.
 #[derive(Clone, Copy, Debug, PartialEq, Eq)]
 pub struct DiagramEntry {
     /// The equation asked.
@@ -21,12 +22,12 @@ impl DiagramEntry {
     }
 }
 
-/// Diagrams that another tool has made, to be checked: each entry refers to lower ones. Up to 4,096 entries about 16 fields are accepted.
+/// Diagrams that another tool has made, to be checked: each entry refers to lower handles. Up to 4,096 entries about 16 fields are accepted.
 ///
 /// [`check`](DiagramTable::check) says whether the diagram of a handle, which has to use every entry, is in the normal form of document
 /// 000's Definition 28: along each path the equations ascend, by left field, right field, left steps, right steps; no entry has two equal
-/// parts; and where an equation is true, its left field isn't named again. Then every path is followed by some sheet, so that a diagram
-/// with entries is true of some sheets and not of all.
+/// parts; and where an equation is true, its left field isn't named again. Then every path is followed by some choice of counts, of any
+/// size, so that a diagram with entries is true of some choices and not of all.
 ///
 /// The diagram of "f2 + 2 = f1 and f3 = f2" isn't in normal form: where the first equation is true, the second one can do without f2.
 /// "f2 + 2 = f1 and f3 + 2 = f1" says the same in normal form (document 000's Example 29):
@@ -46,7 +47,7 @@ impl DiagramEntry {
 /// assert_eq!(table.to_words(), [67, 1, 1, 0, 66, 1, 2, 0]);
 /// assert_eq!(table.check(root), Ok(Verdict::Sometimes));
 ///
-/// // The second equation by itself leaves the first entry unused.
+/// // A root has to use every entry, and the second equation by itself doesn't use the other one's.
 /// assert_eq!(table.check(second), Err(Refusal::NotReachable));
 /// ```
 #[derive(Clone, Debug, Default, PartialEq, Eq)]
@@ -95,7 +96,7 @@ impl DiagramTable {
     /// assert_eq!(refusal, Refusal::TableShape);
     /// assert_eq!(
     ///     refusal.to_string(),
-    ///     "the table's words are not whole entries of four, it has more than 4,096 entries, or it has no such root"
+    ///     "the table's words are not whole entries of four, it has more than 4,096 entries, or the root is none of its handles"
     /// );
     /// ```
     pub fn check_words(table: &[u32], root: Handle) -> Result<Verdict, Refusal> {

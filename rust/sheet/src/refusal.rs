@@ -145,16 +145,18 @@ impl fmt::Display for Refusal {
             Refusal::NothingSatisfies => "no sheet satisfies the rule",
             Refusal::TooLargeToWrite => "the rule takes more than 256 rows to write",
             Refusal::TableShape => {
-                "the table's words are not whole entries of four, it has more than 4,096 entries, or it has no such root"
+                "the table's words are not whole entries of four, it has more than 4,096 entries, or the root is none of its handles"
             }
             Refusal::TableEquation => {
-                "an entry of the table has a field above 16, more than 4,095 steps, or an equation that is not simplified"
+                "an entry of the table has a field above 16, more than 4,095 steps, or an equation that is not simplified \
+                 (the larger field left, steps on one side at most, none left against zero)"
             }
             Refusal::HandleNotLower => "an entry of the table names a handle that is not lower than its own",
             Refusal::EqualEntries => "two entries of the table are equal",
-            Refusal::NotReachable => "an entry of the table is not reachable from the root",
+            Refusal::NotReachable => "the root's diagram does not use every entry of the table",
             Refusal::NotNormalForm => {
-                "the diagram is not in normal form: an entry has two equal parts, or a part whose first equation is not above its own, or a yes part that names its left field again"
+                "the diagram is not in normal form: an entry's two parts are the same, or a part begins with an equation that \
+                 is not above the entry's, or the yes part names the left field of the entry's equation again"
             }
         })
     }

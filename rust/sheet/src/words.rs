@@ -130,7 +130,7 @@ pub fn write_back(store: &[u32], a: u32, rule: &mut [u32]) -> Answer {
     unsafe { c::sheet_write_back(store.as_ptr(), store.len(), a, rule.as_mut_ptr(), rule.len()) }
 }
 
-/// Checks that a table of diagrams is one in normal form, from its root down. The result is the root's verdict: 0, 1 or 2.
+/// Checks that a table is one diagram in normal form, from its root down. The result is the root's verdict: 0, 1 or 2.
 pub fn check_normal_form(table: &[u32], root: u32) -> Answer {
     // SAFETY: pointer and length are those of a borrowed slice.
     unsafe { c::sheet_check_normal_form(table.as_ptr(), table.len(), root) }

@@ -352,7 +352,7 @@ fn last_field_again() -> Vec<Entry> {
 }
 
 fn check_rows() -> Vec<Row> {
-    const GROUP: &str = "Checking another desk's diagram of 4,096 entries";
+    const GROUP: &str = "Checking another tool's diagram of 4,096 entries";
     vec![
         row(GROUP, "accepted: one field against 4,096 numbers", || {
             checking(&normal_forms::chain(MOST_ENTRIES as u32), 0)

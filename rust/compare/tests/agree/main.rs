@@ -40,10 +40,10 @@ fn main() -> ExitCode {
         ("damaged stores", hostile::damaged_stores),
         ("limits", limits::limits),
         ("large diagrams", limits::large_diagrams),
-        ("the worked cases of another desk's diagrams", normal_forms::worked_cases),
+        ("the worked cases of another tool's diagrams", normal_forms::worked_cases),
         ("all small diagrams", normal_forms::all_small),
         ("diagrams close to a normal form", normal_forms::close_to_normal),
-        ("large diagrams of another desk", normal_forms::large),
+        ("large diagrams of another tool", normal_forms::large),
     ];
     for (i, (name, suite)) in suites.into_iter().enumerate() {
         let start = Instant::now();

@@ -1,4 +1,4 @@
-//! The check of another desk's diagrams: cases worked out by hand, all small tables, tables close to a normal form, and large ones.
+//! The check of another tool's diagrams: cases worked out by hand, all small tables, tables close to a normal form, and large ones.
 
 use compare::comparison::Comparison;
 use compare::generate::Size;
@@ -30,31 +30,40 @@ pub fn worked_cases(comparison: &mut Comparison, _: &mut Random, _: u64) {
     terms(comparison);
     handles(comparison);
     limits(comparison);
-    dead_paths(comparison);
+    unfollowed_paths(comparison);
 }
 
-/// 81: broken entries, and roots that there are not. A leaf needs no entries.
+/// 81: broken entries, and roots that are no handles. A leaf needs no entries.
 fn shapes(comparison: &mut Comparison) {
     expect(comparison, &[], 0, (0, 0));
     expect(comparison, &[], 1, (0, 1));
     expect(comparison, &[], 2, (81, 0));
+    expect(comparison, &[3, 2], 0, (81, 0));
     expect(comparison, &[3, 2, 1], 0, (81, 0));
     expect(comparison, &[3, 2, 1], 2, (81, 0));
+    expect(comparison, &[3, 2, 1, 0, 3], 2, (81, 0));
+    expect(comparison, &[3, 2, 1, 0, 3, 2], 2, (81, 0));
     expect(comparison, &[3, 2, 1, 0], 3, (81, 0));
     expect(comparison, &[3, 2, 1, 0], u32::MAX, (81, 0));
 }
 
 fn normal_forms(comparison: &mut Comparison) {
-    let cases: [(&[Entry], u32); 8] = [
+    let cases: [(&[Entry], u32); 13] = [
         // 000's Example 29, rewritten.
         (&[[67, 1, 1, 0], [66, 1, 2, 0]], 3),
+        // 000's Example 36: the right field again; zero again.
         (&[[3, 1, 1, 0], [2, 1, 2, 0]], 3),
+        (&[[3, 0, 1, 0], [2, 0, 2, 0]], 3),
         // The left field again, but where the equation is false.
         (&[[3, 2, 1, 0], [2, 1, 1, 2]], 3),
         (&[[2, 97, 1, 0], [2, 32, 0, 2]], 3),
-        // Right fields are compared before left steps.
+        // Right fields are compared before left steps, these before right steps; steps ascend.
         (&[[3, 2, 1, 0], [35, 1, 1, 2]], 3),
-        // One entry, to either leaf.
+        (&[[34, 1, 1, 0], [2, 33, 1, 2]], 3),
+        (&[[66, 1, 1, 0], [34, 1, 1, 2]], 3),
+        (&[[2, 65, 1, 0], [2, 33, 1, 2]], 3),
+        // One entry, to either leaf; the least field.
+        (&[[1, 0, 1, 0]], 2),
         (&[[3, 2, 1, 0]], 2),
         (&[[3, 2, 0, 1]], 2),
         // A part that both parts of the root share.
@@ -65,18 +74,24 @@ fn normal_forms(comparison: &mut Comparison) {
 
 /// 86, rule by rule.
 fn rules(comparison: &mut Comparison) {
-    let cases: [(&[Entry], u32); 10] = [
+    let cases: [(&[Entry], u32); 14] = [
         // 3, 4, 5, 6, 7.
         (&[[2, 1, 1, 1]], 2),
         (&[[2, 1, 1, 0], [2, 1, 2, 1]], 3),
         (&[[2, 1, 1, 0], [2, 1, 1, 2]], 3),
         (&[[2, 1, 1, 0], [3, 1, 2, 1]], 3),
         (&[[2, 1, 1, 0], [3, 1, 1, 2]], 3),
+        // 7 again, by each number that is compared.
         (&[[35, 1, 1, 0], [3, 2, 1, 2]], 3),
-        // 8': 000's Example 29; below the yes part's root, by yes and by no; the left field on the left.
+        (&[[2, 33, 1, 0], [34, 1, 1, 2]], 3),
+        (&[[34, 1, 1, 0], [66, 1, 1, 2]], 3),
+        (&[[2, 33, 1, 0], [2, 65, 1, 2]], 3),
+        // 8': 000's Example 29; below the yes part's root, by yes and by no, there also with a path that no sheet follows; the left
+        // field on the left.
         (&[[3, 2, 1, 0], [66, 1, 2, 0]], 3),
         (&[[4, 2, 1, 0], [3, 1, 2, 0], [2, 1, 3, 0]], 4),
         (&[[4, 2, 1, 0], [3, 1, 1, 2], [2, 1, 3, 0]], 4),
+        (&[[3, 2, 1, 0], [3, 1, 1, 2], [2, 1, 3, 0]], 4),
         (&[[2, 97, 1, 0], [2, 32, 2, 0]], 3),
     ];
     expect_all(comparison, (86, 0), &cases);
@@ -95,22 +110,33 @@ fn every_field(comparison: &mut Comparison) {
 
 /// 82: 4,096 steps, field 17, turned round, common steps, steps against zero, equal sides; and the largest terms that pass.
 fn terms(comparison: &mut Comparison) {
-    for [left, right] in [[2, 131_073], [17, 1], [1, 2], [34, 33], [33, 0], [2, 2]] {
+    for [left, right] in [[2, 131_073], [131_074, 1], [17, 1], [1, 2], [34, 33], [33, 0], [2, 2]] {
         expect(comparison, &[left, right, 1, 0], 2, (82, 0));
     }
-    for [left, right] in [[2, 131_041], [16, 131_055]] {
+    for [left, right] in [[2, 131_041], [131_042, 1], [16, 131_055]] {
         expect(comparison, &[left, right, 1, 0], 2, NORMAL);
     }
 }
 
 /// 83 to 85. Each number is looked for in the whole table before the next.
 fn handles(comparison: &mut Comparison) {
-    expect_all(comparison, (83, 0), &[(&[[2, 1, 2, 0]], 2), (&[[2, 1, u32::MAX, 0]], 2)]);
+    let not_lower: [(&[Entry], u32); 5] = [
+        (&[[2, 1, 2, 0]], 2),
+        (&[[2, 1, 1, 2]], 2),
+        (&[[2, 1, u32::MAX, 0]], 2),
+        (&[[2, 1, 2, 0]; 2], 3),
+        (&[[3, 2, 1, 0], [3, 2, 1, 0], [2, 1, 4, 0]], 4),
+    ];
+    expect_all(comparison, (83, 0), &not_lower);
     expect_all(comparison, (82, 0), &[(&[[2, 1, u32::MAX, 0], [2, 2, 1, 0]], 3)]);
     let twice = [[3, 2, 1, 0]; 2];
     expect_all(comparison, (84, 0), &[(&twice, 3), (&twice, 2)]);
-    let unreachable: [(&[Entry], u32); 3] =
-        [(&[[3, 2, 1, 0], [2, 1, 1, 0]], 3), (&[[3, 2, 1, 0], [2, 1, 2, 0]], 2), (&[[3, 2, 1, 0]], 1)];
+    let unreachable: [(&[Entry], u32); 4] = [
+        (&[[3, 2, 1, 0], [2, 1, 1, 0]], 3),
+        (&[[3, 2, 1, 0], [2, 1, 2, 0]], 2),
+        (&[[3, 2, 1, 0]], 1),
+        (&[[2, 1, 1, 1], [3, 1, 1, 0]], 2),
+    ];
     expect_all(comparison, (85, 0), &unreachable);
 }
 
@@ -126,21 +152,23 @@ fn limits(comparison: &mut Comparison) {
 }
 
 /// That the search for a sheet on every path finds the paths that no sheet follows, in both ways.
-fn dead_paths(comparison: &mut Comparison) {
+fn unfollowed_paths(comparison: &mut Comparison) {
     let cases: [(&[Entry], bool); 5] = [
         // 1 = 0 and 1 = S(0); not 2 = 0, and 2 = 0.
         (&[[1, 32, 1, 0], [1, 0, 2, 0]], true),
         (&[[2, 0, 1, 0], [2, 0, 0, 2]], true),
         // 2 = 1, 3 = 1 and 4 = 2, but not 4 = 3.
         (&[[4, 3, 0, 1], [4, 2, 2, 0], [3, 1, 3, 0], [2, 1, 4, 0]], true),
-        // 000's Example 29, where rule 8' applies though no path is dead, and rewritten.
+        // 000's Example 29, where rule 8' applies though some sheet follows each path, and rewritten.
         (&[[3, 2, 1, 0], [66, 1, 2, 0]], false),
         (&[[67, 1, 1, 0], [66, 1, 2, 0]], false),
     ];
-    for (entries, dead) in cases {
+    for (entries, unfollowed) in cases {
         let paths = Paths::new(entries.as_flattened(), last(entries));
-        let found = [paths.dead_by_bounds().is_some(), paths.dead_by_counting().is_some()];
-        comparison.test("a dead path, found in two ways", found == [dead; 2], || format!("{entries:?}: {found:?}"));
+        let found = [paths.unfollowed_by_bounds().is_some(), paths.unfollowed_by_counting().is_some()];
+        comparison.test("a path that no sheet follows, found in two ways", found == [unfollowed; 2], || {
+            format!("{entries:?}: {found:?}")
+        });
     }
 }
 
@@ -199,7 +227,7 @@ fn grown(random: &mut Random, size: Size, lapse: Lapse) -> Vec<Entry> {
     }
 }
 
-/// Normal forms, and tables that miss one narrowly. Each fault gives the number that it is made for, and each rule 86 by itself.
+/// Normal forms, and tables that miss one narrowly. Each fault gives its number at least once, and each rule alone gives 86 at least once.
 pub fn close_to_normal(comparison: &mut Comparison, random: &mut Random, cases: u64) {
     let mut faults_met = [false; FAULTS.len()];
     let mut rules_met = Vec::new();

@@ -1,4 +1,4 @@
--- What a table that passes 81 to 85 is like, said in plain facts: each test says what it tests, and what the marks say is reached.
+-- What a table and a root that pass 81 to 85 are like: each test says what it tests, and the handles marked are those reached.
 use Prim.Native.Nat.{ℕ, _+_, _≤_, _<_}
 use mathlib.Core.Path.{_≡_, sym, ap, _∙_}
 use mathlib.Core.Bool.{Bool, true, false, false≢true, not, and-false}
@@ -20,20 +20,12 @@ use Rattle.terms.proofs.TermKept.{TermKept, allows-says}
 use Rattle.normal_form.specs.declared.entry.Entry.{Entry}
 use Rattle.normal_form.specs.Accepted.{Passes81To85}
 use Rattle.normal_form.specs.Check.{shape-kept, terms-kept, handles-lower, same-entry, entries-differ, all-reachable}
+use Rattle.normal_form.specs.Falling.{Falling}
+use Rattle.normal_form.specs.Kept.{Asked, Kept}
 use Rattle.normal_form.specs.Limits.{most-entries, table-limits}
-use Rattle.normal_form.specs.Reachable.{Reaches, reachable}
+use Rattle.normal_form.specs.Reachable.{reachable}
 use Rattle.normal_form.specs.Table.{entry-count, entry, asks}
-use Rattle.normal_form.proofs.ByHandles.{Falling}
 use Rattle.normal_form.proofs.Marks.{marks-exact}
-use Rattle.normal_form.proofs.PathSheet.{Asked}
-
-pub record Kept (t : List ℕ) (root : ℕ) : Type 0 where
-  pub few : entry-count t ≤ most-entries
-  pub root-in : root < entry-count t + leaves
-  pub asked : (i : ℕ) → i < entry-count t → Asked (asks (entry t i))
-  pub falling : Falling t (entry-count t)
-  pub one-entry : (i j : ℕ) → i < entry-count t → j < entry-count t → entry t i ≡ entry t j → i ≡ j
-  pub reached : (i : ℕ) → i < entry-count t → Reaches t root (i + leaves)
 
 -- ---- 82
 module _ (e : Entry) (k : terms-kept table-limits e ≡ true) where
