@@ -18,7 +18,8 @@
 
    A table of diagrams, which another tool has made and sheet_check_normal_form checks, is entries of four words: left term word, right term
    word, yes handle, no handle. Handles are numbered as in a store: 0 is never, 1 is always, and the i-th entry, counted from 0, is handle
-   i + 2. There is no list of questions and no n beside a table: n is 16, and here alone steps go up to 4,095.
+   i + 2. There is no list of questions and no n beside a table: n is 16, and here alone steps go up to 4,095. Its equations have to be
+   simplified: the left field is larger than the right one, at most one side has steps, and the left side has none if the right field is 0.
 
    Numbers. An answer's number is 0 if the call was accepted. A call is refused in just the conditions that stand at it, and the first of them,
    in the order in which they stand there, is the answer's number. Then the result is 0 and NOTHING IS CHANGED: when the call returns, every
@@ -114,11 +115,12 @@ sheet_answer sheet_read(const uint32_t *store, size_t store_len, uint32_t a, con
 sheet_answer sheet_write_back(const uint32_t *store, size_t store_len, uint32_t a, uint32_t *rule, size_t rule_len);
 
 /* Checks that a table is one diagram, from its root down, in the normal form of document 000's Definition 28. Nothing is written. The result
-   is the root's verdict: 0 for the root 0, never; 1 for the root 1, always; else 2, as every path of an accepted diagram is followed by
-   some sheet.
+   is the root's verdict: 0 for the root 0, never; 1 for the root 1, always; else 2, sometimes, as every path of an accepted diagram is
+   followed by some choice of counts, natural numbers of any size.
    Equations are compared by left field, right field, left steps, right steps. One of Definition 28's rules applies at an entry if its yes
    and its no handle are the same (rule 3); if one of its parts begins with the same equation (4 and 5) or with one below it (6 and 7); or if
-   an equation anywhere in its yes part, no branches included, names its left field on either side and is above its own equation (8').
+   an equation anywhere in its yes part, reached there by yes or by no, names the left field of the entry's equation on either side and is
+   above that equation (8').
    Refusals: 81, 82, 83, 84, 85, 86, each tested over the whole table before the next. With a leaf as root any entry is 85. */
 sheet_answer sheet_check_normal_form(const uint32_t *table, size_t table_len, uint32_t root);
 
