@@ -3,7 +3,7 @@
 -- entry, the rule that it tests applies there; for rule 8', because the question found is after the entry's, as all are by then.
 use Prim.Native.Nat.{ℕ, zero, suc, _+_, _-_, _<_}
 use mathlib.Core.Path.{_≡_, refl, sym, ap, _∙_}
-use mathlib.Core.Bool.{Bool, true, false, true≢false, false≢true, not, _&&_, and-false}
+use mathlib.Core.Bool.{Bool, true, false, true≢false, false≢true, not, _&&_, and-true, and-false}
 use mathlib.Core.Logic.{_≢_, _↔_, _⊎_, inl, inr}
 use mathlib.Core.List.{List}
 use native.Mathlib.Omega.{arith}
@@ -42,10 +42,6 @@ some-fails p zero e = absurd (true≢false e)
 some-fails p (suc k) e = by-test (λ b. p k ≡ b → (i : ℕ) × (i < suc k) × (p i ≡ false)) (p k)
     (λ _ b. let r = some-fails p k (simp (b, and-true) at e) in (r .0, omega (arith, r .1), r .2))
     (λ _ b. (k, omega arith, b)) refl
-  where
-    and-true : (a : Bool) → (a && true) ≡ a
-    and-true true = refl
-    and-true false = refl
 
 -- of two tests joined, the first fails, or passes and the second fails
 first-or-second : (a b : Bool) → (a && b) ≡ false → (a ≡ false) ⊎ ((a ≡ true) × (b ≡ false))
