@@ -7,7 +7,7 @@ use Rattle.examples.specs.Example.{example-number}
 use Rattle.examples.specs.Example as examples
 use Rattle.examples.specs.LargestGap.{list-gap}
 use Rattle.normal_form.specs.Check as normal-form
-use Rattle.normal_form.specs.Checked.{checked-number, checked-result}
+use Rattle.normal_form.specs.CheckAnswer.{checked-number, checked-result}
 use Rattle.normal_form.specs.Limits.{table-limits}
 use Rattle.operations.specs.declared.answer.Built.{Built}
 use Rattle.operations.specs.Built.{built-number, built-result}

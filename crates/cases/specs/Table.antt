@@ -298,8 +298,8 @@ check-handles = record {
 }
 
 -- Entries that differ in one word alone are not equal: the left term, the right term, the yes handle, the no handle.
-abbrev pub check-entries : Case
-check-entries = record {
+abbrev pub check-differing-entries : Case
+check-differing-entries = record {
   start = [];
   calls =
       check (3 ∷ 1 ∷ 1 ∷ 0 ∷ 4 ∷ 1 ∷ 1 ∷ 0 ∷ 2 ∷ 1 ∷ 2 ∷ 3 ∷ []) 4
@@ -322,4 +322,4 @@ cases =
     case-1 ∷ case-2 ∷ case-3 ∷ case-4 ∷ case-5-opened ∷ case-5-short ∷ cases-6-to-8 ∷ case-6-short ∷ case-9 ∷ case-11 ∷ case-11-built ∷ case-12
     ∷ steps-simplified ∷ steps-built ∷ steps-in-a-store ∷ steps-beyond-in-a-store
     ∷ check-shapes ∷ check-examples ∷ check-rule-8 ∷ check-rules-3-to-7 ∷ check-order ∷ check-terms ∷ check-handles
-    ∷ check-entries ∷ check-limits ∷ []
+    ∷ check-differing-entries ∷ check-limits ∷ []

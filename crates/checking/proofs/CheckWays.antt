@@ -8,12 +8,12 @@ use native.Mathlib.Omega.{arith}
 use borrow.Author.Tests.{le-leb, lt-leb, leb-true, ltb-true, eq-eqb, ne-eqb}
 use lib.Dec.{eqb, leb, ltb}
 use lib.ListN.{length}
-use Rattle.checking.specs.Needs.{Fits, AllHaveParts, Rooted, Sized}
+use Rattle.checking.specs.Needs.{HasEntries, AllHaveParts, Rooted, Shaped}
 use Rattle.normal_form.specs.declared.answer.CheckFault.the-variants.{BadShape, BadTerm, HandleNotLower, EqualEntries, NotReachable, RuleApplies}
-use Rattle.normal_form.specs.declared.answer.Checked.{Checked}
-use Rattle.normal_form.specs.declared.answer.Checked.the-variants.{Never, Always, Sometimes, Refused}
+use Rattle.normal_form.specs.declared.answer.CheckAnswer.{CheckAnswer}
+use Rattle.normal_form.specs.declared.answer.CheckAnswer.the-variants.{Never, Always, Sometimes, Refused}
 use Rattle.normal_form.specs.Check.{shape-kept, terms-kept, handles-lower, entries-differ, all-reachable, parts-ordered, left-apart, no-rule-applies, root-verdict, check-diagram, check-entries, check}
-use Rattle.normal_form.specs.Limits.{most-entries, table-limits}
+use Rattle.normal_form.specs.Limits.{most-table-entries, table-limits}
 use Rattle.normal_form.specs.Table.{entry-length, entry-count, entry}
 use Rattle.normal_form.proofs.PassesKept.{lower-yes, lower-no}
 use Rattle.store.specs.Layout.{leaves}
@@ -28,20 +28,20 @@ module _ (t : List ℕ) (root : ℕ) where
   part-of-entry n = simp (ne-eqb _ _ n)
 
   module _ (whole : length t % entry-length ≡ 0) where
-    pub too-many : most-entries < entry-count t → false ≡ shape-kept table-limits t root
+    pub too-many : most-table-entries < entry-count t → false ≡ shape-kept table-limits t root
     unfolding shape-kept
-    too-many h = simp (lt-leb (entry-count t) most-entries h, and-false)
+    too-many h = simp (lt-leb (entry-count t) most-table-entries h, and-false)
 
-    pub by-root : {h : ℕ} → h ≡ root → entry-count t ≤ most-entries → ltb h (entry-count t + leaves) ≡ shape-kept table-limits t root
+    pub by-root : {h : ℕ} → h ≡ root → entry-count t ≤ most-table-entries → ltb h (entry-count t + leaves) ≡ shape-kept table-limits t root
     unfolding shape-kept
-    by-root e h = rw (e, eq-eqb _ _ whole, le-leb (entry-count t) most-entries h)
+    by-root e h = rw (e, eq-eqb _ _ whole, le-leb (entry-count t) most-table-entries h)
 
-  pub sized : {b : Bool} → b ≡ shape-kept table-limits t root → b ≡ true → Sized t root (entry-count t)
+  pub sized : {b : Bool} → b ≡ shape-kept table-limits t root → b ≡ true → Shaped t root (entry-count t)
   unfolding shape-kept
   sized eb s =
       let kept = sym eb ∙ s in
       let whole = eqb (length t % entry-length) 0 in
-      let few = leb (entry-count t) most-entries in
+      let few = leb (entry-count t) most-table-entries in
       let low = ltb root (entry-count t + leaves) in
       record {
         whole = refl;
@@ -95,13 +95,13 @@ module _ {t : List ℕ} {root count : ℕ} (r : Rooted t root count) {a : Bool} 
       unfolding check-diagram
       says-rule d = rw (← differ, sa, ← reached, sb, ← ec, d)
 
-      pub says-verdict : c ≡ true → {v : Checked} → v ≡ root-verdict root → v ≡ check-diagram table-limits t root
+      pub says-verdict : c ≡ true → {v : CheckAnswer} → v ≡ root-verdict root → v ≡ check-diagram table-limits t root
       unfolding check-diagram
       says-verdict d ev = ev ∙ rw (← differ, sa, ← reached, sb, ← ec, d)
 
 -- ---- 82 and 83
-module _ {t : List ℕ} {root count : ℕ} (z : Sized t root count) where
-  pub sized-fits : Fits t count
+module _ {t : List ℕ} {root count : ℕ} (z : Shaped t root count) where
+  pub sized-fits : HasEntries t count
   sized-fits = record { within = omega (arith, z .whole); few = z .few }
 
   module _ {a : Bool} (ea : a ≡ all-below count (λ i. terms-kept table-limits (entry t i))) where
@@ -120,7 +120,7 @@ module _ {t : List ℕ} {root count : ℕ} (z : Sized t root count) where
       unfolding check-entries
       says-handle d = rw (← terms, sa, ← handles, d)
 
-      pub says-diagram : b ≡ true → {v : Checked} → v ≡ check-diagram table-limits t root → v ≡ check-entries table-limits t root
+      pub says-diagram : b ≡ true → {v : CheckAnswer} → v ≡ check-diagram table-limits t root → v ≡ check-entries table-limits t root
       unfolding check-entries
       says-diagram d ev = ev ∙ rw (← terms, sa, ← handles, d)
 
@@ -147,6 +147,6 @@ module _ (t : List ℕ) (root : ℕ) {b : Bool} (eb : b ≡ shape-kept table-lim
   unfolding check
   says-shape d = rw (← eb, d)
 
-  pub says-entries : b ≡ true → {v : Checked} → v ≡ check-entries table-limits t root → v ≡ check table-limits t root
+  pub says-entries : b ≡ true → {v : CheckAnswer} → v ≡ check-entries table-limits t root → v ≡ check table-limits t root
   unfolding check
   says-entries s ev = ev ∙ rw (← eb, s)

@@ -8,11 +8,11 @@ use native.Mathlib.Omega.{arith}
 use borrow.Author.Tests.{eqb-true, eq-eqb, ne-eqb}
 use lib.Dec.{eqb}
 use lib.ListN.{getD, set}
-use Rattle.checking.specs.Needs.{buckets, HasEntry, Fits, hash-of, Hash, bucket, Indexed, Empty, Searchable, none-equal}
+use Rattle.checking.specs.Needs.{buckets, HasEntry, HasEntries, hash-of, Hash, bucket, Indexed, Empty, Searchable, none-equal}
 use Rattle.index.proofs.ChainLaws.{chains-none, chains-put, Walk, walk-start, walk-step}
 use Rattle.normal_form.specs.declared.entry.Entry.{Entry}
 use Rattle.normal_form.specs.Check.{same-entry, entries-differ}
-use Rattle.normal_form.specs.Limits.{most-entries}
+use Rattle.normal_form.specs.Limits.{most-table-entries}
 use Rattle.normal_form.specs.Table.{entry}
 use Rattle.store.proofs.Tests.{passes, all-below-from, all-below-fails}
 use Rattle.terms.proofs.Cases.{by-test}
@@ -50,16 +50,16 @@ same-entry-says d e t =
 -- ---- an entry goes into the index
 module _ (t : List ℕ) where
   index-none : {lasts links : List ℕ} → Empty lasts links → Indexed t 0 lasts links
-  index-none x = record { chains = rw (x .buckets, x .room) (chains-none (bucket t) buckets most-entries) }
+  index-none x = record { chains = rw (x .buckets, x .room) (chains-none (bucket t) buckets most-table-entries) }
 
-  pub index-put : {i b : ℕ} {lasts links : List ℕ} → Fits t (i + 1) → Indexed t i lasts links → {e : Entry} → e ≡ entry t i → Hash e b
+  pub index-put : {i b : ℕ} {lasts links : List ℕ} → HasEntries t (i + 1) → Indexed t i lasts links → {e : Entry} → e ≡ entry t i → Hash e b
       → Indexed t (i + 1) (set lasts b (i + 1)) (set links i (getD lasts b 0))
   unfolding bucket
   index-put {i} {b} {lasts} {links} f x ee h =
       let few = f .few in
       let low = h .low in
       let e : b ≡ bucket t i = h .is ∙ ap hash-of ee in
-      record { chains = rw e (chains-put (bucket t) buckets most-entries i lasts links (x .chains) (omega arith) (rw e at low)) }
+      record { chains = rw e (chains-put (bucket t) buckets most-table-entries i lasts links (x .chains) (omega arith) (rw e at low)) }
 
 -- ---- the walk: of the first k entries, those that equal e are below p, and the entry of p lies in the bucket of e
 unfoldable pub equals : List ℕ → Entry → ℕ → Bool
@@ -125,7 +125,7 @@ module _ (t : List ℕ) {count : ℕ} where
   differing-begins x = record { passed = passed-none (unlike t); index = index-none t x }
 
   module _ {i : ℕ} {lasts links : List ℕ} (x : Differing t count i lasts links) where
-    pub differing-found : Fits t count → Searchable t i lasts links
+    pub differing-found : HasEntries t count → Searchable t i lasts links
     differing-found f =
         let up = x .passed .up-to in
         record { fits = record { within = omega (arith, f .within); few = omega (arith, f .few) }; index = x .index }

@@ -3,7 +3,7 @@ use Prim.Native.Nat.{ℕ, _+_, _-_, _≤_, _<_}
 use mathlib.Core.Path.{_≡_, ap}
 use mathlib.Core.List.{List}
 use native.Mathlib.Omega.{arith}
-use Rattle.checking.specs.Needs.{most-handles, HasEntry, Fits, NamesEntry, HasParts, AllHaveParts}
+use Rattle.checking.specs.Needs.{most-handles, HasEntry, HasEntries, NamesEntry, HasParts, AllHaveParts}
 use Rattle.normal_form.specs.declared.entry.Entry.{Entry}
 use Rattle.normal_form.specs.Table.{entry, asks}
 use Rattle.store.specs.Layout.{leaves}
@@ -14,7 +14,7 @@ pub equation-read : (e : Entry) {l r : Term} → l ≡ term-of (e .left) → r �
 equation-read e el er = λ i. equation (el i) (er i)
 
 module _ {t : List ℕ} where
-  pub fits-less : {k : ℕ} (i : ℕ) → Fits t k → i < k → Fits t (i + 1)
+  pub fits-less : {k : ℕ} (i : ℕ) → HasEntries t k → i < k → HasEntries t (i + 1)
   fits-less i f h = record { within = omega (arith, f .within); few = omega (arith, f .few) }
 
   pub has-parts : {count : ℕ} (i : ℕ) → AllHaveParts t count → i < count → HasParts t i

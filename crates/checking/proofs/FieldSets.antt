@@ -15,13 +15,13 @@ use lib.Pow.{pow-pos, pow-lt, pow-add, shl-exact}
 use lib.Seq.{getD-set-same, getD-set-other}
 use Rattle.checking.specs.FieldSets.{has-field, both-fields, fields-at, field-sets}
 use Rattle.checking.specs.Needs.{most-handles, bits}
-use Rattle.normal_form.proofs.Marks.{all-alike}
 use Rattle.normal_form.proofs.NamedFlags.{flags-length}
-use Rattle.normal_form.specs.Limits.{most-entries, table-limits}
+use Rattle.normal_form.specs.Limits.{most-table-entries, table-limits}
 use Rattle.normal_form.specs.Named.{named}
 use Rattle.normal_form.specs.Table.{entry, asks}
 use Rattle.store.specs.Layout.{leaves}
 use Rattle.terms.proofs.Cases.{by-eq}
+use Rattle.terms.proofs.OneValue.{all-alike}
 
 -- ---- one digit
 pub shifted-one : (f : ℕ) → f < bits → (1 * 2 ^ f) % 2 ^ bits ≡ 2 ^ f
@@ -70,7 +70,7 @@ module _ (t : List ℕ) where
   sets-length (suc k) = simp length-set (sets-length k)
 
   -- the digit of a field at a handle is the field's flag there
-  pub sets-are-flags : (f k h : ℕ) → k ≤ most-entries → has-field f (getD (field-sets t k) h 0) ≡ getD (named table-limits f t k) h false
+  pub sets-are-flags : (f k h : ℕ) → k ≤ most-table-entries → has-field f (getD (field-sets t k) h 0) ≡ getD (named table-limits f t k) h false
   unfolding field-sets named fields-at
   sets-are-flags f zero h l = rw (all-alike {A = ℕ} 0 most-handles h, all-alike false most-handles h) (ap (λ x. eqb (x % 2) 1) (zero-div (2 ^ f)))
   sets-are-flags f (suc k) h l = elim (ℕ-discrete h (k + leaves)) [

@@ -7,7 +7,7 @@ use lib.ListN.{length, replicate}
 use Rattle.index.specs.Needs.{Chains}
 use Rattle.normal_form.specs.declared.entry.Entry.{Entry}
 use Rattle.normal_form.specs.Check.{same-entry}
-use Rattle.normal_form.specs.Limits.{most-entries, table-limits}
+use Rattle.normal_form.specs.Limits.{most-table-entries, table-limits}
 use Rattle.normal_form.specs.Reachable.{flag-count}
 use Rattle.normal_form.specs.Table.{entry-length, entry-count, entry}
 use Rattle.store.specs.Layout.{leaves}
@@ -25,9 +25,9 @@ pub record HasEntry (t : List ℕ) (i : ℕ) : Type 0 where
   pub within : entry-length * i + entry-length ≤ length t
 
 -- the first k entries lie within the words, and the arrays have room for them
-pub record Fits (t : List ℕ) (k : ℕ) : Type 0 where
+pub record HasEntries (t : List ℕ) (k : ℕ) : Type 0 where
   pub within : entry-length * k ≤ length t
-  pub few : k ≤ most-entries
+  pub few : k ≤ most-table-entries
 
 -- a handle that is no leaf's names an entry within the words
 pub record NamesEntry (t : List ℕ) (handle : ℕ) : Type 0 where
@@ -35,7 +35,7 @@ pub record NamesEntry (t : List ℕ) (handle : ℕ) : Type 0 where
 
 -- the i-th entry fits, and its handles are lower than its own
 pub record HasParts (t : List ℕ) (i : ℕ) : Type 0 where
-  pub fits : Fits t (i + 1)
+  pub fits : HasEntries t (i + 1)
   pub yes-low : entry t i .yes < i + leaves
   pub no-low : entry t i .no < i + leaves
 
@@ -43,7 +43,7 @@ pub record HasParts (t : List ℕ) (i : ℕ) : Type 0 where
 pub record AllHaveParts (t : List ℕ) (count : ℕ) : Type 0 where
   pub whole : count ≡ entry-count t
   pub parts : (i : ℕ) → i < count → HasParts t i
-  pub fits : Fits t count
+  pub fits : HasEntries t count
 
 -- the same, and the root is one of the handles
 pub record Rooted (t : List ℕ) (root count : ℕ) : Type 0 where
@@ -51,14 +51,14 @@ pub record Rooted (t : List ℕ) (root count : ℕ) : Type 0 where
   pub root-low : root < count + leaves
 
 -- these are the entries of the table, the arrays have room for them, and the root is one of their handles
-pub record Sized (t : List ℕ) (root count : ℕ) : Type 0 where
+pub record Shaped (t : List ℕ) (root count : ℕ) : Type 0 where
   pub whole : count ≡ entry-count t
-  pub few : count ≤ most-entries
+  pub few : count ≤ most-table-entries
   pub root-low : root < count + leaves
 
 -- ---- the index: for each bucket the last entry in it, and for each entry the one before it in its bucket
 abbrev pub buckets : ℕ
-buckets = most-entries
+buckets = most-table-entries
 
 -- the bucket of an entry: any function would do, and this one spreads ordinary entries well
 unfoldable pub hash-of : Entry → ℕ
@@ -75,16 +75,16 @@ bucket t i = hash-of (entry t i)
 
 -- the first k entries are in the index
 pub record Indexed (t : List ℕ) (k : ℕ) (lasts links : List ℕ) : Type 0 where
-  pub chains : Chains buckets most-entries (bucket t) k lasts links
+  pub chains : Chains buckets most-table-entries (bucket t) k lasts links
 
 -- an index of no entries
 pub record Empty (lasts links : List ℕ) : Type 0 where
   pub buckets : lasts ≡ replicate buckets 0
-  pub room : links ≡ replicate most-entries 0
+  pub room : links ≡ replicate most-table-entries 0
 
 -- the first k entries lie within the words, and are in the index
 pub record Searchable (t : List ℕ) (k : ℕ) (lasts links : List ℕ) : Type 0 where
-  pub fits : Fits t k
+  pub fits : HasEntries t k
   pub index : Indexed t k lasts links
 
 -- none of the first k entries equals e
@@ -104,4 +104,4 @@ pub record SmallFields (g : Equation) : Type 0 where
 -- the sets after all entries, of which there are not too many
 pub record AllNamed (t : List ℕ) (sets : List ℕ) : Type 0 where
   pub are : sets ≡ field-sets t (entry-count t)
-  pub few : entry-count t ≤ most-entries
+  pub few : entry-count t ≤ most-table-entries

@@ -1,6 +1,6 @@
 // The check, in the order of its numbers. No entry is read by a handle before every handle is known to be lower than its entry's own.
 ghost use mathlib.Core.Path.{_≡_};
-ghost use Rattle.checking.specs.Needs.{AllHaveParts, Rooted, Sized};
+ghost use Rattle.checking.specs.Needs.{AllHaveParts, Rooted, Shaped};
 ghost use Rattle.normal_form.specs.Check as rule;
 ghost use Rattle.normal_form.specs.Limits.{table-limits};
 use crate::differing::entries_differ;
@@ -11,8 +11,8 @@ use crate::marking::all_reachable;
 use crate::naming::lefts_apart;
 use crate::ordering::all_ordered;
 use crate::questions::all_terms_kept;
+use normal_form::CheckAnswer;
 use normal_form::CheckFault;
-use normal_form::Checked;
 use store::LEAVES;
 use store::wide;
 
@@ -41,20 +41,20 @@ fn no_rule_applies(t: &[u32], count: usize) -> bool
 }
 
 // The verdict of the root of an accepted table.
-fn root_verdict(root: u32) -> Checked
+fn root_verdict(root: u32) -> CheckAnswer
     ensures { λ r. ⌜ r ≡ rule.root-verdict root ⌝ }
 {
     if root == 0 {
-        return Checked::Never;
+        return CheckAnswer::Never;
     }
     if root == 1 {
-        return Checked::Always;
+        return CheckAnswer::Always;
     }
-    Checked::Sometimes
+    CheckAnswer::Sometimes
 }
 
 // The conditions 84 to 86, of entries whose handles can be followed.
-fn check_diagram(t: &[u32], root: u32, count: usize) -> Checked
+fn check_diagram(t: &[u32], root: u32, count: usize) -> CheckAnswer
     requires { ⌜ Rooted (now t) root count ⌝ }
     ensures { λ r. ⌜ r ≡ rule.check-diagram table-limits (now (t .entry)) root ⌝ }
 {
@@ -63,33 +63,33 @@ fn check_diagram(t: &[u32], root: u32, count: usize) -> Checked
             if no_rule_applies(t, count) {
                 return root_verdict(root);
             }
-            return Checked::Refused(CheckFault::RuleApplies);
+            return CheckAnswer::Refused(CheckFault::RuleApplies);
         }
-        return Checked::Refused(CheckFault::NotReachable);
+        return CheckAnswer::Refused(CheckFault::NotReachable);
     }
-    Checked::Refused(CheckFault::EqualEntries)
+    CheckAnswer::Refused(CheckFault::EqualEntries)
 }
 
 // The conditions 82 to 86.
-fn check_entries(t: &[u32], root: u32, count: usize) -> Checked
-    requires { ⌜ Sized (now t) root count ⌝ }
+fn check_entries(t: &[u32], root: u32, count: usize) -> CheckAnswer
+    requires { ⌜ Shaped (now t) root count ⌝ }
     ensures { λ r. ⌜ r ≡ rule.check-entries table-limits (now (t .entry)) root ⌝ }
 {
     if all_terms_kept(t, count) {
         if all_handles_lower(t, count) {
             return check_diagram(t, root, count);
         }
-        return Checked::Refused(CheckFault::HandleNotLower);
+        return CheckAnswer::Refused(CheckFault::HandleNotLower);
     }
-    Checked::Refused(CheckFault::BadTerm)
+    CheckAnswer::Refused(CheckFault::BadTerm)
 }
 
 // Whether a table of entries is in Definition 28's normal form from a root on: the root's verdict, or the first condition that fails.
-pub fn check_normal_form(table: &[u32], root: u32) -> Checked
+pub fn check_normal_form(table: &[u32], root: u32) -> CheckAnswer
     ensures { λ r. ⌜ r ≡ rule.check table-limits (now (table .entry)) root ⌝ }
 {
     if shape_kept(table, root) {
         return check_entries(table, root, table.len() / ENTRY_LENGTH);
     }
-    Checked::Refused(CheckFault::BadShape)
+    CheckAnswer::Refused(CheckFault::BadShape)
 }

@@ -1,7 +1,7 @@
 // Number 84: equal entries. Entries are spread over buckets, and each is compared with those before it in its bucket alone.
 ghost use mathlib.Core.Path.{_≡_};
 ghost use Prim.Native.Nat.{_+_};
-ghost use Rattle.checking.specs.Needs.{Fits, Hash, Indexed, Empty, Searchable, none-equal};
+ghost use Rattle.checking.specs.Needs.{HasEntries, Hash, Indexed, Empty, Searchable, none-equal};
 ghost use Rattle.normal_form.specs.Check as rule;
 use crate::entries::CAPACITY;
 use crate::entries::entry_of;
@@ -63,7 +63,7 @@ fn is_new(t: &[u32], k: usize, e: Entry, lasts: &Lasts, links: &Links) -> bool
 
 // The i-th entry goes into the index of the entries before it.
 fn put(t: &[u32], i: usize, lasts: &mut Lasts, links: &mut Links)
-    requires { ⌜ Fits (now t) (i + 1) ⌝ }
+    requires { ⌜ HasEntries (now t) (i + 1) ⌝ }
     requires { ⌜ Indexed (now t) i (now lasts) (now links) ⌝ }
     ensures { λ r. ⌜ Indexed (now (t .entry)) (i + 1) (now (lasts .exit)) (now (links .exit)) ⌝ }
 {
@@ -74,7 +74,7 @@ fn put(t: &[u32], i: usize, lasts: &mut Lasts, links: &mut Links)
 
 // Whether no two entries are equal, by an index that is lent empty.
 fn differ_by(t: &[u32], count: usize, lasts: &mut Lasts, links: &mut Links) -> bool
-    requires { ⌜ Fits (now t) count ⌝ }
+    requires { ⌜ HasEntries (now t) count ⌝ }
     requires { ⌜ Empty (now lasts) (now links) ⌝ }
     ensures { λ r. ⌜ r ≡ rule.entries-differ (now (t .entry)) count ⌝ }
 {
@@ -92,7 +92,7 @@ fn differ_by(t: &[u32], count: usize, lasts: &mut Lasts, links: &mut Links) -> b
 
 // Whether no two entries are equal.
 pub fn entries_differ(t: &[u32], count: usize) -> bool
-    requires { ⌜ Fits (now t) count ⌝ }
+    requires { ⌜ HasEntries (now t) count ⌝ }
     ensures { λ r. ⌜ r ≡ rule.entries-differ (now (t .entry)) count ⌝ }
 {
     let mut lasts = [0u16; BUCKETS];

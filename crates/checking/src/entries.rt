@@ -3,7 +3,7 @@ ghost use mathlib.Core.Path.{_≡_};
 ghost use Rattle.checking.specs.Needs.{HasEntry};
 ghost use Rattle.normal_form.specs.Table as table;
 use normal_form::Entry;
-use normal_form::MOST_ENTRIES;
+use normal_form::MOST_TABLE_ENTRIES;
 use store::LEAVES;
 use terms::Equation;
 use terms::term_of;
@@ -12,7 +12,7 @@ use terms::term_of;
 pub const ENTRY_LENGTH: usize = 4;
 
 // How many entries a table has at most, and how many handles, those of the leaves among them.
-pub const CAPACITY: usize = MOST_ENTRIES as usize;
+pub const CAPACITY: usize = MOST_TABLE_ENTRIES as usize;
 
 pub const HANDLES: usize = CAPACITY + LEAVES;
 

@@ -1,7 +1,7 @@
 // Number 83: a handle not lower than its entry's own. Once this has passed, every handle of an entry can be followed.
 ghost use mathlib.Core.Path.{_≡_};
 ghost use Prim.Native.Nat.{_+_};
-ghost use Rattle.checking.specs.Needs.{Fits};
+ghost use Rattle.checking.specs.Needs.{HasEntries};
 ghost use Rattle.normal_form.specs.Check as rule;
 ghost use Rattle.normal_form.specs.Table as table;
 ghost use Rattle.store.specs.Sound.{all-below};
@@ -11,7 +11,7 @@ use store::wide;
 
 // Whether the handles of the i-th entry are lower than its own.
 fn handles_lower(t: &[u32], i: usize) -> bool
-    requires { ⌜ Fits (now t) (i + 1) ⌝ }
+    requires { ⌜ HasEntries (now t) (i + 1) ⌝ }
     ensures { λ r. ⌜ r ≡ rule.handles-lower (table.entry (now (t .entry)) i) i ⌝ }
 {
     let e = entry_of(t, i);
@@ -24,7 +24,7 @@ fn handles_lower(t: &[u32], i: usize) -> bool
 
 // Whether this is so of each entry.
 pub fn all_handles_lower(t: &[u32], count: usize) -> bool
-    requires { ⌜ Fits (now t) count ⌝ }
+    requires { ⌜ HasEntries (now t) count ⌝ }
     ensures { λ r. ⌜ r ≡ all-below count (λ i. rule.handles-lower (table.entry (now (t .entry)) i) i) ⌝ }
 {
     let mut i: usize = 0;

@@ -5,7 +5,7 @@ ghost use Prim.Native.Nat.{_+_, _≤_};
 ghost use lib.ListN.{length, getD, replicate};
 ghost use Rattle.checking.specs.Needs.{most-handles, HasParts, Rooted};
 ghost use Rattle.normal_form.specs.Check as rule;
-ghost use Rattle.normal_form.specs.Limits.{most-entries, table-limits};
+ghost use Rattle.normal_form.specs.Limits.{most-table-entries, table-limits};
 ghost use Rattle.normal_form.specs.Reachable as reach;
 ghost use Rattle.store.specs.Layout.{leaves};
 ghost use Rattle.store.specs.Sound.{all-below};
@@ -46,7 +46,7 @@ fn mark_down(t: &[u32], root: usize, count: usize, marks: &mut Flags)
 
 // Whether each entry is marked.
 fn all_marked(marks: &Flags, count: usize) -> bool
-    requires { ⌜ count ≤ most-entries ⌝ }
+    requires { ⌜ count ≤ most-table-entries ⌝ }
     ensures { λ r. ⌜ r ≡ all-below count (λ i. getD (now (marks .entry)) (i + leaves) false) ⌝ }
 {
     let mut i: usize = 0;

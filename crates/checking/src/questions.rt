@@ -1,7 +1,7 @@
 // Number 82: a term beyond the limits, or an equation that is not simplified.
 ghost use mathlib.Core.Path.{_≡_};
 ghost use Prim.Native.Nat.{_+_};
-ghost use Rattle.checking.specs.Needs.{Fits};
+ghost use Rattle.checking.specs.Needs.{HasEntries};
 ghost use Rattle.normal_form.specs.Check as rule;
 ghost use Rattle.normal_form.specs.Limits.{table-limits};
 ghost use Rattle.normal_form.specs.Table as table;
@@ -14,7 +14,7 @@ use terms::is_simplified;
 
 // Whether the terms of the i-th entry are within the limits, and its equation is simplified.
 fn terms_kept(t: &[u32], i: usize) -> bool
-    requires { ⌜ Fits (now t) (i + 1) ⌝ }
+    requires { ⌜ HasEntries (now t) (i + 1) ⌝ }
     ensures { λ r. ⌜ r ≡ rule.terms-kept table-limits (table.entry (now (t .entry)) i) ⌝ }
 {
     let limits = limits_of_table();
@@ -30,7 +30,7 @@ fn terms_kept(t: &[u32], i: usize) -> bool
 
 // Whether this is so of each entry.
 pub fn all_terms_kept(t: &[u32], count: usize) -> bool
-    requires { ⌜ Fits (now t) count ⌝ }
+    requires { ⌜ HasEntries (now t) count ⌝ }
     ensures { λ r. ⌜ r ≡ all-below count (λ i. rule.terms-kept table-limits (table.entry (now (t .entry)) i)) ⌝ }
 {
     let mut i: usize = 0;

@@ -6,6 +6,7 @@ use native.Mathlib.Omega.{arith}
 use native.Mathlib.Decide.{decLe, ℕ-discrete}
 use lib.ListN.{length, getD, set, replicate, length-set}
 use lib.Seq.{getD-set-same, getD-set-other}
+use Rattle.terms.proofs.OneValue.{all-alike}
 use Rattle.facts.specs.declared.record.Facts.{Facts}
 use Rattle.facts.specs.Record.{state, noes-in, field-places}
 use Rattle.facts.specs.State.{start}
@@ -38,11 +39,6 @@ getD-beyond [] k d h = refl
 getD-beyond (x ∷ xs) zero d h = absurd (omega arith)
 getD-beyond (x ∷ xs) (suc k) d h = getD-beyond xs k d (omega arith)
 
-getD-zeros : (n k : ℕ) → _≡_ {A = ℕ} (getD (replicate n 0) k 0) 0
-getD-zeros zero k = refl
-getD-zeros (suc n) zero = refl
-getD-zeros (suc n) (suc k) = getD-zeros n k
-
 pub numbered-start : {i : ℕ} {f : Facts} → Numbered i f → field-places ≤ i → state f ≡ start
 unfolding noes-in
 numbered-start {i} {f} n h = λ j. record { classes = record { class = fun-ext class j; offset = fun-ext offset j }; noes = noes j }
@@ -54,7 +50,7 @@ numbered-start {i} {f} n h = λ j. record { classes = record { class = fun-ext c
     ]
 
     offset : (k : ℕ) → getD (f .offset) k 0 ≡ 0
-    offset k = rw (n .offsets) (getD-zeros field-places k)
+    offset k = rw (n .offsets) (all-alike {A = ℕ} 0 field-places k)
 
     noes : noes-in (f .left) (f .right) (f .noes) ≡ []
     noes = rw (n .noes-none) refl

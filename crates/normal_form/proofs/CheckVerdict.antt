@@ -9,7 +9,7 @@ use borrow.Author.Tests.{eq-eqb, ne-eqb}
 use lib.Dec.{eqb}
 use Rattle.terms.specs.Meaning.{Valuation}
 use Rattle.terms.proofs.Cases.{by-eq}
-use Rattle.normal_form.specs.declared.answer.Checked.the-variants.{Never, Always, Sometimes}
+use Rattle.normal_form.specs.declared.answer.CheckAnswer.the-variants.{Never, Always, Sometimes}
 use Rattle.normal_form.specs.Accepted.{Accepted}
 use Rattle.normal_form.specs.Check.{root-verdict, check}
 use Rattle.normal_form.specs.Limits.{table-limits}

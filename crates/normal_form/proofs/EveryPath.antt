@@ -11,7 +11,7 @@ use Rattle.store.specs.Layout.{leaves}
 use Rattle.terms.specs.Meaning.{Valuation}
 use Rattle.normal_form.specs.Accepted.{Accepted}
 use Rattle.normal_form.specs.Followed.{Followed}
-use Rattle.normal_form.specs.Kept.{Kept}
+use Rattle.normal_form.specs.KeptTable.{KeptTable}
 use Rattle.normal_form.specs.Meaning.{meaning}
 use Rattle.normal_form.specs.Paths.{Path, facts-of, end-of, followed}
 use Rattle.normal_form.specs.Tree.{leaf, tree, tree-truth}
@@ -24,7 +24,7 @@ use Rattle.normal_form.proofs.PathSheet.{sheet-of}
 use Rattle.normal_form.proofs.RulesExactly.{passed-all}
 
 module _ (t : List ℕ) (root : ℕ) (a : Accepted t root) where
-  kept : Kept t root
+  kept : KeptTable t root
   kept = passes-kept t root (passed-all t root a .0)
 
   means : (v : Valuation) → meaning t root v ≡ end-of (tree t root) (followed v (tree t root))

@@ -2,7 +2,7 @@
 -- An entry's handles are lower than its own, so an entry's flag no longer changes once the pass has come to it: at the end each marked entry has both its
 -- handles marked, and so all that is reached is marked.
 use Prim.Native.Nat.{ℕ, zero, suc, _+_, _≤_, _<_}
-use mathlib.Core.Path.{_≡_, refl, sym, _∙_}
+use mathlib.Core.Path.{_≡_, sym, _∙_}
 use mathlib.Core.Logic.{_↔_}
 use mathlib.Core.Bool.{Bool, true, false, false≢true, cond}
 use mathlib.Core.List.{List}
@@ -11,6 +11,7 @@ use native.Mathlib.Decide.{ℕ-discrete}
 use lib.ListN.{length, getD, set, replicate, length-set, length-replicate}
 use lib.Seq.{getD-set-same, getD-set-other}
 use Rattle.terms.proofs.Cases.{by-test}
+use Rattle.terms.proofs.OneValue.{all-alike}
 use Rattle.store.specs.Layout.{leaves}
 use Rattle.normal_form.specs.declared.limits.TableLimits.{TableLimits}
 use Rattle.normal_form.specs.Falling.{Falling}
@@ -23,12 +24,6 @@ Marked marks g = getD marks g false ≡ true
 -- both handles of the i-th entry are marked
 abbrev PartsMarked : List ℕ → List Bool → ℕ → Type 0
 PartsMarked t marks i = Marked marks (entry t i .yes) × Marked marks (entry t i .no)
-
--- every element of a list of one value is that value
-pub all-alike : {A : Type 0} (x : A) (n g : ℕ) → getD (replicate n x) g x ≡ x
-all-alike x zero g = refl
-all-alike x (suc n) zero = refl
-all-alike x (suc n) (suc g) = all-alike x n g
 
 -- all that is marked is reached
 abbrev OnlyReached : List ℕ → ℕ → List Bool → Type 0

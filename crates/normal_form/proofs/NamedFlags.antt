@@ -11,6 +11,7 @@ use native.Mathlib.Decide.{ℕ-discrete}
 use lib.ListN.{length, getD, length-set, length-replicate}
 use lib.Seq.{getD-set-same, getD-set-other}
 use Rattle.terms.specs.Words.{field}
+use Rattle.terms.proofs.OneValue.{all-alike}
 use Rattle.store.specs.Layout.{leaves}
 use Rattle.normal_form.specs.declared.limits.TableLimits.{TableLimits}
 use Rattle.normal_form.specs.Falling.{Falling}
@@ -20,7 +21,6 @@ use Rattle.normal_form.specs.Rules.{names, Names, SomeAsks}
 use Rattle.normal_form.specs.Table.{entry-count, entry, asks}
 use Rattle.normal_form.specs.Tree.{tree}
 use Rattle.normal_form.proofs.ByHandles.{by-handles, tree-leaf, tree-entry}
-use Rattle.normal_form.proofs.Marks.{all-alike}
 
 either-exact : {A B : Type 0} {a b : Bool} → (a ≡ true) ↔ A → (b ≡ true) ↔ B → ((a || b) ≡ true) ↔ (A ⊎ B)
 either-exact {a = true} p q = (λ _. inl (p .0 refl), λ _. refl)

@@ -22,7 +22,7 @@ use Rattle.terms.proofs.Cases.{by-test}
 use Rattle.terms.proofs.Numbers.{equations-equal}
 use Rattle.terms.proofs.QuestionOrder.{fields-first-strict-total}
 use Rattle.normal_form.specs.Check.{asks-after, parts-ordered, left-apart, no-rule-applies}
-use Rattle.normal_form.specs.Kept.{Kept}
+use Rattle.normal_form.specs.KeptTable.{KeptTable}
 use Rattle.normal_form.specs.Limits.{table-limits}
 use Rattle.normal_form.specs.Named.{named}
 use Rattle.normal_form.specs.Reachable.{Reaches, itself, by-yes, by-no}
@@ -56,7 +56,7 @@ not-after g h e = by-test (λ b. before fields-first h g ≡ b → (h ≡ g) ⊎
     let same : (p : Equation → ℕ) → p h ≡ p g = λ p. elim (ℕ-discrete (p h) (p g)) [ yes x ↦ x | no n ↦ absurd (alike (λ x. n (ap p x))) ] in
     inl (equations-equal h g (same (λ q. q .left .field .0)) (same (λ q. q .left .steps .0)) (same (λ q. q .right .field .0)) (same (λ q. q .right .steps .0)))) refl
 
-module _ {t : List ℕ} {root : ℕ} (k : Kept t root) where
+module _ {t : List ℕ} {root : ℕ} (k : KeptTable t root) where
   abbrev m : ℕ
   m = entry-count t
 

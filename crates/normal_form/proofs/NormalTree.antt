@@ -14,7 +14,7 @@ use Rattle.terms.specs.Meaning.{Valuation, truth}
 use Rattle.terms.specs.Words.{field}
 use Rattle.terms.proofs.Cases.{by-test}
 use Rattle.terms.proofs.QuestionOrder.{lex-more, fields-first-strict-total}
-use Rattle.normal_form.specs.Kept.{Asked}
+use Rattle.normal_form.specs.KeptTable.{Asked}
 use Rattle.normal_form.specs.Paths.{Path, facts-of, end-of, followed}
 use Rattle.normal_form.specs.Rules.{Precedes, Names, RootAsks, SomeAsks, RuleAt, rule-3, rule-4, rule-5, rule-6, rule-7, rule-8, Applies}
 use Rattle.normal_form.specs.Tree.{Tree, leaf, ite, tree-truth}

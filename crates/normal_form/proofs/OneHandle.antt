@@ -14,7 +14,7 @@ use Rattle.terms.specs.Words.{word-of}
 use Rattle.terms.proofs.Cases.{by-eq}
 use Rattle.terms.proofs.TermWords.{word-of-term-of}
 use Rattle.normal_form.specs.declared.entry.Entry.{Entry}
-use Rattle.normal_form.specs.Kept.{Kept}
+use Rattle.normal_form.specs.KeptTable.{KeptTable}
 use Rattle.normal_form.specs.Table.{entry-count, entry, asks}
 use Rattle.normal_form.specs.Tree.{ite, tree}
 use Rattle.normal_form.proofs.ByHandles.{by-handles, tree-leaf, tree-entry}
@@ -33,7 +33,7 @@ left-word d e p = sym (word-of-term-of (d .left)) ∙ ap (λ (g : Equation). wor
 right-word : (d e : Entry) → asks d ≡ asks e → d .right ≡ e .right
 right-word d e p = sym (word-of-term-of (d .right)) ∙ ap (λ (g : Equation). word-of (g .right)) p ∙ word-of-term-of (e .right)
 
-module _ {t : List ℕ} {root : ℕ} (k : Kept t root) where
+module _ {t : List ℕ} {root : ℕ} (k : KeptTable t root) where
   abbrev m : ℕ
   m = entry-count t
 

@@ -21,8 +21,8 @@ use Rattle.normal_form.specs.declared.entry.Entry.{Entry}
 use Rattle.normal_form.specs.Accepted.{Passes81To85}
 use Rattle.normal_form.specs.Check.{shape-kept, terms-kept, handles-lower, same-entry, entries-differ, all-reachable}
 use Rattle.normal_form.specs.Falling.{Falling}
-use Rattle.normal_form.specs.Kept.{Asked, Kept}
-use Rattle.normal_form.specs.Limits.{most-entries, table-limits}
+use Rattle.normal_form.specs.KeptTable.{Asked, KeptTable}
+use Rattle.normal_form.specs.Limits.{most-table-entries, table-limits}
 use Rattle.normal_form.specs.Reachable.{reachable}
 use Rattle.normal_form.specs.Table.{entry-count, entry, asks}
 use Rattle.normal_form.proofs.Marks.{marks-exact}
@@ -84,9 +84,9 @@ module _ (t : List ℕ) (n : ℕ) (k : entries-differ t n ≡ true) where
 
 -- ---- all of them
 module _ (t : List ℕ) (root : ℕ) (p : Passes81To85 t root) where
-  few-entries : entry-count t ≤ most-entries
+  few-entries : entry-count t ≤ most-table-entries
   unfolding shape-kept
-  few-entries = leb-true (entry-count t) most-entries (passes (leb (entry-count t) most-entries) (λ f. simp (f, and-false) at (p .passes-81)))
+  few-entries = leb-true (entry-count t) most-table-entries (passes (leb (entry-count t) most-table-entries) (λ f. simp (f, and-false) at (p .passes-81)))
 
   root-below : root < entry-count t + leaves
   unfolding shape-kept
@@ -100,7 +100,7 @@ module _ (t : List ℕ) (root : ℕ) (p : Passes81To85 t root) where
       let lower : (i : ℕ) → i < entry-count t → handles-lower (entry t i) i ≡ true = all-below-says (λ i. handles-lower (entry t i) i) (entry-count t) (p .passes-83) in
       record { yes-below = λ i h. lower-yes (entry t i) i (lower i h); no-below = λ i h. lower-no (entry t i) i (lower i h) }
 
-  pub passes-kept : Kept t root
+  pub passes-kept : KeptTable t root
   unfolding all-reachable
   passes-kept = record {
     few = few-entries;

@@ -18,8 +18,8 @@ use Rattle.terms.specs.Meaning.{Valuation, count, value, truth}
 use Rattle.terms.proofs.Cases.{by-test, by-eq}
 use Rattle.terms.proofs.Numbers.{equations-equal}
 use Rattle.terms.proofs.SimplifyForm.{smaller-right, bare-side, bare-left}
-use Rattle.normal_form.specs.Kept.{Asked}
-use Rattle.normal_form.specs.Limits.{most-steps}
+use Rattle.normal_form.specs.KeptTable.{Asked}
+use Rattle.normal_form.specs.Limits.{most-table-steps}
 
 -- ---- what a path of a normal form is like
 -- a fact, and one that comes later on a path
@@ -40,7 +40,7 @@ Ordered (x ∷ xs) = Asked (x .question) × All (Before x) xs × Ordered xs
 
 -- ---- the sheet
 abbrev spacing : ℕ
-spacing = 2 * most-steps + 1
+spacing = 2 * most-table-steps + 1
 
 -- what a question says of its left field, where its right field counts its number in units
 abbrev said : Equation → ℕ

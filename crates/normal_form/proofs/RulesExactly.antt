@@ -11,8 +11,8 @@ use Rattle.store.specs.Sound.{all-below}
 use Rattle.terms.proofs.Cases.{by-test}
 use Rattle.normal_form.specs.declared.answer.CheckFault.{CheckFault}
 use Rattle.normal_form.specs.declared.answer.CheckFault.the-variants.{BadShape, BadTerm, HandleNotLower, EqualEntries, NotReachable, RuleApplies}
-use Rattle.normal_form.specs.declared.answer.Checked.{Checked}
-use Rattle.normal_form.specs.declared.answer.Checked.the-variants.{Refused}
+use Rattle.normal_form.specs.declared.answer.CheckAnswer.{CheckAnswer}
+use Rattle.normal_form.specs.declared.answer.CheckAnswer.the-variants.{Refused}
 use Rattle.normal_form.specs.Accepted.{Passes81To85, Accepted}
 use Rattle.normal_form.specs.Check.{shape-kept, terms-kept, handles-lower, entries-differ, all-reachable, no-rule-applies, root-verdict, check-diagram, check-entries, check}
 use Rattle.normal_form.specs.Limits.{table-limits}
@@ -23,12 +23,12 @@ use Rattle.normal_form.proofs.PassesKept.{passes-kept}
 use Rattle.normal_form.proofs.NormalTable.{fails-applies, passes-none}
 
 -- a condition that is tested first: the answer is no refusal only if it passes, and then what comes after it answers
-passes-and : (b : Bool) (x : Checked) (f : CheckFault) → ((g : CheckFault) → cond b x (Refused f) ≢ Refused g) → (b ≡ true) × ((g : CheckFault) → x ≢ Refused g)
+passes-and : (b : Bool) (x : CheckAnswer) (f : CheckFault) → ((g : CheckFault) → cond b x (Refused f) ≢ Refused g) → (b ≡ true) × ((g : CheckFault) → x ≢ Refused g)
 passes-and true x f a = (refl, a)
 passes-and false x f a = absurd (a f refl)
 
 -- what is picked of two answers that are no refusals is none
-picks-accepted : (b : Bool) (x y : Checked) (f : CheckFault) → x ≢ Refused f → y ≢ Refused f → cond b x y ≢ Refused f
+picks-accepted : (b : Bool) (x y : CheckAnswer) (f : CheckFault) → x ≢ Refused f → y ≢ Refused f → cond b x y ≢ Refused f
 picks-accepted true x y f p q = p
 picks-accepted false x y f p q = q
 

@@ -6,7 +6,7 @@ use mathlib.Core.Logic.{_≢_}
 use mathlib.Core.List.{List}
 use Rattle.store.specs.Sound.{all-below}
 use Rattle.normal_form.specs.declared.answer.CheckFault.{CheckFault}
-use Rattle.normal_form.specs.declared.answer.Checked.the-variants.{Refused}
+use Rattle.normal_form.specs.declared.answer.CheckAnswer.the-variants.{Refused}
 use Rattle.normal_form.specs.Check.{shape-kept, terms-kept, handles-lower, entries-differ, all-reachable, check}
 use Rattle.normal_form.specs.Limits.{table-limits}
 use Rattle.normal_form.specs.Table.{entry-count, entry}

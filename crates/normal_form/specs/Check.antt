@@ -11,8 +11,8 @@ use Rattle.terms.specs.Form.{is-simplified}
 use Rattle.terms.specs.Order.{fields-first, before}
 use Rattle.terms.specs.Words.{allows}
 use Rattle.normal_form.specs.declared.answer.CheckFault.the-variants.{BadShape, BadTerm, HandleNotLower, EqualEntries, NotReachable, RuleApplies}
-use Rattle.normal_form.specs.declared.answer.Checked.{Checked}
-use Rattle.normal_form.specs.declared.answer.Checked.the-variants.{Never, Always, Sometimes, Refused}
+use Rattle.normal_form.specs.declared.answer.CheckAnswer.{CheckAnswer}
+use Rattle.normal_form.specs.declared.answer.CheckAnswer.the-variants.{Never, Always, Sometimes, Refused}
 use Rattle.normal_form.specs.declared.entry.Entry.{Entry}
 use Rattle.normal_form.specs.declared.limits.TableLimits.{TableLimits}
 use Rattle.normal_form.specs.Named.{named}
@@ -64,11 +64,11 @@ unfoldable pub no-rule-applies : TableLimits → List ℕ → Bool
 no-rule-applies limits t = all-below (entry-count t) (parts-ordered t) && all-below (entry-count t) (left-apart limits t)
 
 -- "On acceptance the result is the root's verdict." (theorem `check-verdict`)
-abbrev pub root-verdict : ℕ → Checked
+abbrev pub root-verdict : ℕ → CheckAnswer
 root-verdict root = cond (eqb root 0) Never (cond (eqb root 1) Always Sometimes)
 
 -- 84 to 86: entries whose handles are known to be lower
-unfoldable pub check-diagram : TableLimits → List ℕ → ℕ → Checked
+unfoldable pub check-diagram : TableLimits → List ℕ → ℕ → CheckAnswer
 check-diagram limits t root =
     cond (entries-differ t (entry-count t))
     (cond (all-reachable limits t root)
@@ -77,7 +77,7 @@ check-diagram limits t root =
     (Refused EqualEntries)
 
 -- 82 and 83, then those
-unfoldable pub check-entries : TableLimits → List ℕ → ℕ → Checked
+unfoldable pub check-entries : TableLimits → List ℕ → ℕ → CheckAnswer
 check-entries limits t root =
     let each = all-below (entry-count t) in
     cond (each (λ i. terms-kept limits (entry t i)))
@@ -85,5 +85,5 @@ check-entries limits t root =
     (Refused BadTerm)
 
 -- 81, then those
-unfoldable pub check : TableLimits → List ℕ → ℕ → Checked
+unfoldable pub check : TableLimits → List ℕ → ℕ → CheckAnswer
 check limits t root = cond (shape-kept limits t root) (check-entries limits t root) (Refused BadShape)

@@ -5,11 +5,11 @@ pub mod Falling
 pub mod Tree
 pub mod Paths
 pub mod Rules
-pub mod Checked
+pub mod CheckAnswer
 pub mod Reachable
 pub mod Named
 pub mod Check
 pub mod Accepted
-pub mod Kept
+pub mod KeptTable
 pub mod Followed
 pub mod VerdictExact

@@ -6,13 +6,13 @@ use Rattle.terms.specs.Words.{field, steps}
 use Rattle.normal_form.specs.declared.limits.TableLimits.{TableLimits}
 
 -- "steps above 4,095"
-abbrev pub most-steps : ℕ
-most-steps = 4095
+abbrev pub most-table-steps : ℕ
+most-table-steps = 4095
 
 -- "at most 4,096"
-abbrev pub most-entries : ℕ
-most-entries = 4096
+abbrev pub most-table-entries : ℕ
+most-table-entries = 4096
 
 -- "field above 16": the fields of a sheet
 abbrev pub table-limits : TableLimits
-table-limits = record { terms = record { field = field most-fields; steps = steps most-steps }; entries = most-entries }
+table-limits = record { terms = record { field = field most-fields; steps = steps most-table-steps }; entries = most-table-entries }

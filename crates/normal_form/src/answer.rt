@@ -1,9 +1,9 @@
 // The answer of a check, and document 02's numbers for it.
 ghost use mathlib.Core.Path.{_≡_};
-ghost use Rattle.normal_form.specs.Checked as spec;
+ghost use Rattle.normal_form.specs.CheckAnswer as spec;
 
 // What a check answers: the root's verdict, if the table is accepted, or why it is not.
-pub enum Checked {
+pub enum CheckAnswer {
     Never,
     Always,
     Sometimes,
@@ -35,25 +35,25 @@ fn check_fault_number(f: CheckFault) -> u32
 }
 
 // The number of an answer.
-pub fn checked_number(c: Checked) -> u32
+pub fn checked_number(c: CheckAnswer) -> u32
     ensures { λ r. ⌜ r ≡ spec.checked-number c ⌝ }
 {
     match c {
-        Checked::Never => 0,
-        Checked::Always => 0,
-        Checked::Sometimes => 0,
-        Checked::Refused(f) => check_fault_number(f),
+        CheckAnswer::Never => 0,
+        CheckAnswer::Always => 0,
+        CheckAnswer::Sometimes => 0,
+        CheckAnswer::Refused(f) => check_fault_number(f),
     }
 }
 
 // The result of an answer: the verdict, or 0.
-pub fn checked_result(c: Checked) -> u32
+pub fn checked_result(c: CheckAnswer) -> u32
     ensures { λ r. ⌜ r ≡ spec.checked-result c ⌝ }
 {
     match c {
-        Checked::Never => 0,
-        Checked::Always => 1,
-        Checked::Sometimes => 2,
-        Checked::Refused(_) => 0,
+        CheckAnswer::Never => 0,
+        CheckAnswer::Always => 1,
+        CheckAnswer::Sometimes => 2,
+        CheckAnswer::Refused(_) => 0,
     }
 }

@@ -4,11 +4,11 @@ mod answer;
 mod entry;
 mod limits;
 
+pub use answer::CheckAnswer;
 pub use answer::CheckFault;
-pub use answer::Checked;
 pub use answer::checked_number;
 pub use answer::checked_result;
 pub use entry::Entry;
-pub use limits::MOST_ENTRIES;
+pub use limits::MOST_TABLE_ENTRIES;
 pub use limits::TableLimits;
 pub use limits::limits_of_table;

@@ -6,9 +6,9 @@ use terms::MOST_FIELDS;
 use terms::Steps;
 use terms::TermLimits;
 
-const MOST_STEPS: u32 = 4095;
+const MOST_TABLE_STEPS: u32 = 4095;
 
-pub const MOST_ENTRIES: u32 = 4096;
+pub const MOST_TABLE_ENTRIES: u32 = 4096;
 
 // What a table may hold: the limits of its terms, and the largest number of entries.
 pub struct TableLimits {
@@ -22,10 +22,10 @@ pub fn limits_of_table() -> TableLimits
 {
     let terms = TermLimits {
         field: Field(MOST_FIELDS),
-        steps: Steps(MOST_STEPS),
+        steps: Steps(MOST_TABLE_STEPS),
     };
     TableLimits {
         terms,
-        entries: MOST_ENTRIES,
+        entries: MOST_TABLE_ENTRIES,
     }
 }

@@ -2,8 +2,8 @@
 use Prim.Native.Nat.{ℕ}
 use Rattle.examples.specs.declared.answer.Example.{Example}
 use Rattle.examples.specs.Example.{example-number}
-use Rattle.normal_form.specs.declared.answer.Checked.{Checked}
-use Rattle.normal_form.specs.Checked.{checked-number, checked-result}
+use Rattle.normal_form.specs.declared.answer.CheckAnswer.{CheckAnswer}
+use Rattle.normal_form.specs.CheckAnswer.{checked-number, checked-result}
 use Rattle.operations.specs.declared.answer.Built.{Built}
 use Rattle.operations.specs.Built.{built-number, built-result}
 use Rattle.sheet.specs.declared.answers.Answer.{Answer}
@@ -43,5 +43,5 @@ abbrev pub written-answer : Written → Answer
 written-answer w = answer-with (written-number w) (written-result w)
 
 -- "On acceptance the result is the root's verdict."
-abbrev pub checked-answer : Checked → Answer
+abbrev pub checked-answer : CheckAnswer → Answer
 checked-answer c = answer-with (checked-number c) (checked-result c)

@@ -3,7 +3,7 @@ ghost use mathlib.Core.Path.{_≡_};
 ghost use Rattle.sheet.specs.Answers as spec;
 use examples::Example;
 use examples::example_number;
-use normal_form::Checked;
+use normal_form::CheckAnswer;
 use normal_form::checked_number;
 use normal_form::checked_result;
 use operations::Built;
@@ -89,7 +89,7 @@ pub fn written_answer(w: Written) -> Answer
 }
 
 // The answer of a check.
-pub fn checked_answer(c: Checked) -> Answer
+pub fn checked_answer(c: CheckAnswer) -> Answer
     ensures { λ r. ⌜ r ≡ spec.checked-answer c ⌝ }
 {
     Answer {

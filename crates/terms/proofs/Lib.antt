@@ -1,4 +1,5 @@
 pub mod Cases
+pub mod OneValue
 pub mod LimitsFit
 pub mod Gap
 pub mod SimplifyCases

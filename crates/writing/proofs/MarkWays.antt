@@ -16,7 +16,8 @@ use Rattle.writing.specs.WriteBack.{mark-parts, marks-down, reachable, m
 use Rattle.store.proofs.SoundFacts.{sound-says, used-fits, used-few}
 use Rattle.store.proofs.SoundTree.{falling}
 use Rattle.terms.proofs.Cases.{by-test}
-use Rattle.writing.proofs.Marks.{parts-length, down-alike, none-marked, Alike, first-marks, first-length}
+use Rattle.terms.proofs.OneValue.{all-alike}
+use Rattle.writing.proofs.Marks.{parts-length, down-alike, Alike, first-marks, first-length}
 use Rattle.writing.proofs.MarkedRows.{before-marked, before-unmarked, before-few, row-of-leaf, row-of-entry}
 
 module _ (s : List ℕ) (i : ℕ) (marks : List Bool) where
@@ -84,8 +85,8 @@ module _ {s : List ℕ} {handle : ℕ} (k : Handled s handle) where
     first-alike {none} e g l = elim (ℕ-discrete g handle) [
       | yes d ↦ rw d (getD-set-same none handle true false (omega (arith, handle-fits, ap length e, length-replicate most-handles false))
           ∙ sym (getD-set-same (replicate (suc handle) false) handle true false (omega (arith, length-replicate (suc handle) false))))
-      | no d ↦ getD-set-other none handle g true false d ∙ ap (λ x. getD x g false) e ∙ none-marked most-handles g
-          ∙ sym (getD-set-other (replicate (suc handle) false) handle g true false d ∙ none-marked (suc handle) g)
+      | no d ↦ getD-set-other none handle g true false d ∙ ap (λ x. getD x g false) e ∙ all-alike false most-handles g
+          ∙ sym (getD-set-other (replicate (suc handle) false) handle g true false d ∙ all-alike false (suc handle) g)
     ]
 
     pub marking-ends : {none : List Bool} → h ≤ leaves → none ≡ replicate most-handles false → first ≡ set none handle true → Marked s handle marks

@@ -15,6 +15,7 @@ use Rattle.terms.specs.declared.limits.Limits.{Limits}
 use Rattle.store.specs.Layout.{entry, leaves, used}
 use Rattle.writing.specs.WriteBack.{mark-parts, marks-down, reachable, Reaches, itself, by-yes, by-no}
 use Rattle.terms.proofs.Cases.{by-test}
+use Rattle.terms.proofs.OneValue.{all-alike}
 use Rattle.store.proofs.ByHandles.{Falling}
 use Rattle.store.specs.SoundParts.{Sound}
 use Rattle.store.proofs.SoundTree.{falling}
@@ -150,11 +151,6 @@ module _ {s : List ℕ} {m : ℕ} (f : Falling s m) where
       (omega (arith, parts-length s k a)) (omega (arith, parts-length s k b)) (alike-part n k a b (omega arith) (omega arith) la lb e)
 
 -- ---- the handles reachable from a handle
-pub none-marked : (n g : ℕ) → getD (replicate n false) g false ≡ false
-none-marked zero g = refl
-none-marked (suc n) zero = refl
-none-marked (suc n) (suc g) = none-marked n g
-
 -- the flags that the pass from a handle begins with
 abbrev pub first-marks : ℕ → List Bool
 first-marks h = set (replicate (suc h) false) h true
@@ -167,7 +163,7 @@ module _ {limits : Limits} {s : List ℕ} (snd : Sound limits s) (h : ℕ) (l : 
   unfolding OnlyReached
   first-only g e = elim (ℕ-discrete g h) [
     | yes d ↦ rw d itself
-    | no d ↦ absurd (false≢true (sym (getD-set-other (replicate (suc h) false) h g true false d ∙ none-marked (suc h) g) ∙ e))
+    | no d ↦ absurd (false≢true (sym (getD-set-other (replicate (suc h) false) h g true false d ∙ all-alike false (suc h) g) ∙ e))
   ]
 
   -- only what is reached is marked

@@ -6,18 +6,18 @@ use Rattle.store.specs.Layout.{leaves}
 use Rattle.terms.specs.declared.term.Equation.{Equation}
 use Rattle.terms.specs.Form.{SimplifiedForm}
 use Rattle.normal_form.specs.Falling.{Falling}
-use Rattle.normal_form.specs.Limits.{most-steps, most-entries}
+use Rattle.normal_form.specs.Limits.{most-table-steps, most-table-entries}
 use Rattle.normal_form.specs.Reachable.{Reaches}
 use Rattle.normal_form.specs.Table.{entry-count, entry, asks}
 
 -- a simplified equation within the steps that a table may have
 pub record Asked (q : Equation) : Type 0 where
   pub form : SimplifiedForm q
-  pub left-steps : q .left .steps .0 ≤ most-steps
-  pub right-steps : q .right .steps .0 ≤ most-steps
+  pub left-steps : q .left .steps .0 ≤ most-table-steps
+  pub right-steps : q .right .steps .0 ≤ most-table-steps
 
-pub record Kept (t : List ℕ) (root : ℕ) : Type 0 where
-  pub few : entry-count t ≤ most-entries
+pub record KeptTable (t : List ℕ) (root : ℕ) : Type 0 where
+  pub few : entry-count t ≤ most-table-entries
   pub root-in : root < entry-count t + leaves
   pub asked : (i : ℕ) → i < entry-count t → Asked (asks (entry t i))
   pub falling : Falling t (entry-count t)
