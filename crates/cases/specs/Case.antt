@@ -28,8 +28,8 @@ use Rattle.writing.specs.WriteBack.{written-number, written-result}
 pub data CaseCall : Type 0 where
   -- the two term words
   simplify : ℕ → ℕ → CaseCall
-  -- n and the list
-  open-with : ℕ → List ℕ → CaseCall
+  -- n, the order and the list
+  open-with : ℕ → ℕ → List ℕ → CaseCall
   -- the words of a rule table
   build : List ℕ → CaseCall
   -- handles
@@ -71,8 +71,8 @@ built-as o lent = answered (built-number (o .answer)) (built-result (o .answer))
 abbrev pub outcomes : List ℕ → List CaseCall → List CaseOutcome
 outcomes s [] = []
 outcomes s (simplify l r ∷ calls) = simplified-as (answer (simplify-words term-limits l r)) ∷ outcomes s calls
-outcomes s (open-with n list ∷ calls) =
-    let o = open-store store-limits n list s in
+outcomes s (open-with n order list ∷ calls) =
+    let o = open-store store-limits n order list s in
     answered (open-number (o .answer)) 0 (o .words) list ∷ outcomes (o .words) calls
 outcomes s (build table ∷ calls) = let o = operation.build store-limits s table in built-as o table ∷ outcomes (o .words) calls
 outcomes s (negate a ∷ calls) = let o = operation.negate store-limits s a in built-as o [] ∷ outcomes (o .words) calls

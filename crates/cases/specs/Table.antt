@@ -1,5 +1,5 @@
 -- Document 01, "Sheets and stores to try": the starred cases, and those of document 02's requests; each number as the papers have it or as their
--- words give it.
+-- words give it. By document 02 (ix) a store's heading has a fourth word, its order, and each length is one word more.
 use Prim.Native.Nat.{ℕ}
 use mathlib.Core.List.{List, [], _∷_, _++_}
 use lib.IntN.{pos, negsuc}
@@ -26,14 +26,14 @@ case-3 = record { start = []; calls = simplify 65 64 ∷ []; expected = simplifi
 -- Word 32736 is 1,023 steps of zero, accepted; 32768 is refused (14 or 35). The edge of 255, words 8160 and 8192, is none since document 02 (viii).
 abbrev pub case-4 : Case
 case-4 = record {
-  start = 7 ∷ 7 ∷ 7 ∷ 7 ∷ 7 ∷ [];
+  start = replicate 6 7;
   calls =
       simplify 1 32736 ∷ simplify 1 32768 ∷ simplify 32768 1 ∷ simplify 1 8192
-      ∷ open-with 1 (1 ∷ 32768 ∷ []) ∷ open-with 1 (1 ∷ 32736 ∷ []) ∷ [];
+      ∷ open-with 1 0 (1 ∷ 32768 ∷ []) ∷ open-with 1 0 (1 ∷ 32736 ∷ []) ∷ [];
   expected =
       simplified 0 2 1 32736 (pos 1023) ∷ simplified 35 0 0 0 (pos 0) ∷ simplified 35 0 0 0 (pos 0) ∷ simplified 0 2 1 8192 (pos 256)
-      ∷ answered 14 0 (7 ∷ 7 ∷ 7 ∷ 7 ∷ 7 ∷ []) (1 ∷ 32768 ∷ [])
-      ∷ answered 0 0 (1 ∷ 1 ∷ 0 ∷ 1 ∷ 32736 ∷ []) (1 ∷ 32736 ∷ []) ∷ [];
+      ∷ answered 14 0 (replicate 6 7) (1 ∷ 32768 ∷ [])
+      ∷ answered 0 0 (1 ∷ 1 ∷ 0 ∷ 0 ∷ 1 ∷ 32736 ∷ []) (1 ∷ 32736 ∷ []) ∷ [];
 }
 
 -- ---- document 02 (viii): 1,023 steps
@@ -45,24 +45,24 @@ steps-simplified = record {
   expected = simplified 0 2 32752 15 (negsuc 1022) ∷ simplified 0 2 32752 15 (negsuc 1022) ∷ [];
 }
 
--- n = 2, S1023(2) = 1, 8 words: built turned round, it is handle 2.
+-- n = 2, S1023(2) = 1, 9 words: built turned round, it is handle 2.
 abbrev pub steps-built : Case
 steps-built =
     let list : List ℕ = 32738 ∷ 1 ∷ [] in
     let rule : List ℕ = 2 ∷ 1 ∷ 32738 ∷ 0 ∷ [] in
     record {
-      start = replicate 8 7;
-      calls = open-with 2 list ∷ build rule ∷ [];
+      start = replicate 9 7;
+      calls = open-with 2 0 list ∷ build rule ∷ [];
       expected =
-          answered 0 0 (2 ∷ 1 ∷ 0 ∷ (list ++ replicate 3 0)) list
-          ∷ answered 0 2 (2 ∷ 1 ∷ 1 ∷ 32738 ∷ 1 ∷ 1 ∷ 1 ∷ 0 ∷ []) rule ∷ [];
+          answered 0 0 (2 ∷ 1 ∷ 0 ∷ 0 ∷ (list ++ replicate 3 0)) list
+          ∷ answered 0 2 (2 ∷ 1 ∷ 1 ∷ 0 ∷ 32738 ∷ 1 ∷ 1 ∷ 1 ∷ 0 ∷ []) rule ∷ [];
     }
 
 -- The words of a store whose question has 1,023 steps: it is sound. 1 = S1024(0) is refused in a rule, and so is S(1) = S1024(0), though it would simplify
 -- to the listed question; 1 = S256(0) is within the limit and not on the list.
 abbrev pub steps-in-a-store : Case
 steps-in-a-store =
-    let s : List ℕ = 1 ∷ 1 ∷ 0 ∷ 1 ∷ 32736 ∷ 0 ∷ 0 ∷ 0 ∷ [] in
+    let s : List ℕ = 1 ∷ 1 ∷ 0 ∷ 0 ∷ 1 ∷ 32736 ∷ 0 ∷ 0 ∷ 0 ∷ [] in
     let beyond : List ℕ = 2 ∷ 1 ∷ 32768 ∷ 0 ∷ [] in
     let raised : List ℕ = 2 ∷ 33 ∷ 32768 ∷ 0 ∷ [] in
     let unlisted : List ℕ = 2 ∷ 1 ∷ 8192 ∷ 0 ∷ [] in
@@ -72,49 +72,53 @@ steps-in-a-store =
       calls = verdict 0 ∷ build beyond ∷ build raised ∷ build unlisted ∷ build listed ∷ [];
       expected =
           answered 0 0 s [] ∷ answered 35 0 s beyond ∷ answered 35 0 s raised ∷ answered 36 0 s unlisted
-          ∷ answered 0 2 (1 ∷ 1 ∷ 1 ∷ 1 ∷ 32736 ∷ 1 ∷ 1 ∷ 0 ∷ []) listed ∷ [];
+          ∷ answered 0 2 (1 ∷ 1 ∷ 1 ∷ 0 ∷ 1 ∷ 32736 ∷ 1 ∷ 1 ∷ 0 ∷ []) listed ∷ [];
     }
+
+-- Words that are asked for the verdict of handle 0, which every store has: number 0 if they are a sound store, and 22 if they are none. The result is 0
+-- either way.
+abbrev words-tried : ℕ → List ℕ → Case
+words-tried number s = record { start = s; calls = verdict 0 ∷ []; expected = answered number 0 s [] ∷ [] }
 
 -- With 1,024 steps it is not sound.
 abbrev pub steps-beyond-in-a-store : Case
-steps-beyond-in-a-store =
-    let s : List ℕ = 1 ∷ 1 ∷ 0 ∷ 1 ∷ 32768 ∷ [] in
-    record { start = s; calls = verdict 0 ∷ []; expected = answered 22 0 s [] ∷ [] }
+steps-beyond-in-a-store = words-tried 22 (1 ∷ 1 ∷ 0 ∷ 0 ∷ 1 ∷ 32768 ∷ [])
 
--- n = 0, empty list, 3 words: opened, all zero. The rule of one always row has handle 1; its example writes nothing. (K is 0 for an empty list.)
+-- n = 0, empty list, 4 words: opened, all zero. The rule of one always row has handle 1; its example writes nothing. (K is 0 for an empty list.)
 abbrev pub case-5-opened : Case
 case-5-opened = record {
-  start = 9 ∷ 9 ∷ 9 ∷ [];
-  calls = open-with 0 [] ∷ build (1 ∷ 0 ∷ 0 ∷ 0 ∷ []) ∷ verdict 1 ∷ example 1 [] ∷ ask-list-gap ∷ [];
-  expected = answered 0 0 (0 ∷ 0 ∷ 0 ∷ []) [] ∷ answered 0 1 (0 ∷ 0 ∷ 0 ∷ []) (1 ∷ 0 ∷ 0 ∷ 0 ∷ []) ∷ answered 0 1 (0 ∷ 0 ∷ 0 ∷ []) [] ∷ answered 0 0 (0 ∷ 0 ∷ 0 ∷ []) []
+  start = replicate 4 9;
+  calls = open-with 0 0 [] ∷ build (1 ∷ 0 ∷ 0 ∷ 0 ∷ []) ∷ verdict 1 ∷ example 1 [] ∷ ask-list-gap ∷ [];
+  expected = answered 0 0 (replicate 4 0) [] ∷ answered 0 1 (replicate 4 0) (1 ∷ 0 ∷ 0 ∷ 0 ∷ []) ∷ answered 0 1 (replicate 4 0) [] ∷ answered 0 0 (replicate 4 0) []
       ∷ gap-is 0 ∷ [];
 }
 
--- 2 words: 21.
+-- 3 words: 21.
 abbrev pub case-5-short : Case
-case-5-short = record { start = 9 ∷ 9 ∷ []; calls = open-with 0 [] ∷ []; expected = answered 21 0 (9 ∷ 9 ∷ []) [] ∷ [] }
+case-5-short = record { start = replicate 3 9; calls = open-with 0 0 [] ∷ []; expected = answered 21 0 (replicate 3 9) [] ∷ [] }
 
 -- ---- n = 3, list 2 = 1, 3 = 1, 3 = 2
--- Store of 21 words. Building 3 = 2 gives handle 5 and the words 3 3 4, 2 1 3 1 3 2, 2 1 0, 3 1 0, 2 0 3, 1 2 4. Case 7: then building 3 = 1
--- gives handle 2; used stays 4. Case 8: 2 = 1 and 3 = 2 and not 3 = 1 is handle 0.
-abbrev pub cases-6-to-8 : Case
-cases-6-to-8 =
-    let s = after-case-6 in
+-- Store of 22 words. Building 3 = 2 gives handle 5 and the words 3 3 4 0, 2 1 3 1 3 2, 2 1 0, 3 1 0, 2 0 3, 1 2 4. Case 7: then building 3 = 1
+-- gives handle 2; used stays 4. Case 8: 2 = 1 and 3 = 2 and not 3 = 1 is handle 0. The list stands in both orders, so that in the older one all is the
+-- same but for word 3.
+abbrev pub cases-6-to-8 : ℕ → Case
+cases-6-to-8 order =
+    let s = after-case-6 order in
     record {
-      start = replicate 21 7;
-      calls = open-with 3 three-equal ∷ build last-equal ∷ build outer-equal ∷ build not-outer ∷ [];
+      start = replicate 22 7;
+      calls = open-with 3 order three-equal ∷ build last-equal ∷ build outer-equal ∷ build not-outer ∷ [];
       expected =
-          answered 0 0 (3 ∷ 3 ∷ 0 ∷ (three-equal ++ replicate 12 0)) three-equal
+          answered 0 0 (3 ∷ 3 ∷ 0 ∷ order ∷ (three-equal ++ replicate 12 0)) three-equal
           ∷ answered 0 5 s last-equal ∷ answered 0 2 s outer-equal ∷ answered 0 0 s not-outer ∷ [];
     }
 
--- With 18 words: 51, unchanged.
+-- With 19 words: 51, unchanged.
 abbrev pub case-6-short : Case
 case-6-short =
-    let s : List ℕ = 3 ∷ 3 ∷ 0 ∷ (three-equal ++ replicate 9 0) in
+    let s : List ℕ = 3 ∷ 3 ∷ 0 ∷ 0 ∷ (three-equal ++ replicate 9 0) in
     record {
-      start = replicate 18 7;
-      calls = open-with 3 three-equal ∷ build last-equal ∷ [];
+      start = replicate 19 7;
+      calls = open-with 3 0 three-equal ∷ build last-equal ∷ [];
       expected = answered 0 0 s three-equal ∷ answered 51 0 s last-equal ∷ [];
     }
 
@@ -124,10 +128,10 @@ case-9 =
     let list : List ℕ = 34 ∷ 1 ∷ 3 ∷ 33 ∷ 3 ∷ 66 ∷ [] in
     let rule : List ℕ =
     2 ∷ 34 ∷ 1 ∷ 0 ∷ 3 ∷ 0 ∷ 0 ∷ 0 ∷ 2 ∷ 3 ∷ 33 ∷ 0 ∷ 4 ∷ 1 ∷ 2 ∷ 0 ∷ 2 ∷ 3 ∷ 66 ∷ 0 ∷ 4 ∷ 3 ∷ 4 ∷ 0 ∷ [] in
-    let s : List ℕ = 3 ∷ 3 ∷ 0 ∷ (list ++ replicate 3 0) in
+    let s : List ℕ = 3 ∷ 3 ∷ 0 ∷ 0 ∷ (list ++ replicate 3 0) in
     record {
-      start = replicate 12 7;
-      calls = open-with 3 list ∷ build rule ∷ [];
+      start = replicate 13 7;
+      calls = open-with 3 0 list ∷ build rule ∷ [];
       expected = answered 0 0 s list ∷ answered 0 0 s rule ∷ [];
     }
 
@@ -136,12 +140,12 @@ abbrev pub case-11-built : Case
 case-11-built =
     let list : List ℕ = 1 ∷ 0 ∷ 1 ∷ 32 ∷ [] in
     let rule : List ℕ = 2 ∷ 1 ∷ 0 ∷ 0 ∷ 3 ∷ 0 ∷ 0 ∷ 0 ∷ 2 ∷ 1 ∷ 32 ∷ 0 ∷ 3 ∷ 2 ∷ 0 ∷ 0 ∷ 4 ∷ 1 ∷ 3 ∷ 0 ∷ [] in
-    let s : List ℕ = 1 ∷ 2 ∷ 2 ∷ 1 ∷ 0 ∷ 1 ∷ 32 ∷ 2 ∷ 0 ∷ 1 ∷ 1 ∷ 0 ∷ 2 ∷ [] in
+    let s : List ℕ = 1 ∷ 2 ∷ 2 ∷ 0 ∷ 1 ∷ 0 ∷ 1 ∷ 32 ∷ 2 ∷ 0 ∷ 1 ∷ 1 ∷ 0 ∷ 2 ∷ [] in
     record {
-      start = replicate 13 7;
-      calls = open-with 1 list ∷ build rule ∷ join 3 3 ∷ negate 3 ∷ example 3 (7 ∷ []) ∷ [];
+      start = replicate 14 7;
+      calls = open-with 1 0 list ∷ build rule ∷ join 3 3 ∷ negate 3 ∷ example 3 (7 ∷ []) ∷ [];
       expected =
-          answered 0 0 (1 ∷ 2 ∷ 0 ∷ (list ++ replicate 6 0)) list
+          answered 0 0 (1 ∷ 2 ∷ 0 ∷ 0 ∷ (list ++ replicate 6 0)) list
           ∷ answered 0 3 s rule ∷ answered 0 3 s [] ∷ answered 51 0 s [] ∷ answered 0 0 s (2 ∷ []) ∷ [];
     }
 
@@ -150,10 +154,10 @@ abbrev pub case-12 : Case
 case-12 =
     let list : List ℕ = 2 ∷ 32 ∷ 2 ∷ 97 ∷ [] in
     let rule : List ℕ = 2 ∷ 2 ∷ 32 ∷ 0 ∷ 2 ∷ 2 ∷ 97 ∷ 0 ∷ 4 ∷ 0 ∷ 1 ∷ 0 ∷ [] in
-    let s : List ℕ = 2 ∷ 2 ∷ 0 ∷ list in
+    let s : List ℕ = 2 ∷ 2 ∷ 0 ∷ 0 ∷ list in
     record {
-      start = replicate 7 7;
-      calls = open-with 2 list ∷ build rule ∷ verdict 0 ∷ [];
+      start = replicate 8 7;
+      calls = open-with 2 0 list ∷ build rule ∷ verdict 0 ∷ [];
       expected = answered 0 0 s list ∷ answered 0 0 s rule ∷ answered 0 0 s [] ∷ [];
     }
 
@@ -165,7 +169,7 @@ sevens = replicate 25 7
 -- for each of the two entries.
 abbrev pub case-11 : Case
 case-11 =
-    let s : List ℕ = 1 ∷ 2 ∷ 2 ∷ 1 ∷ 0 ∷ 1 ∷ 32 ∷ 2 ∷ 0 ∷ 1 ∷ 1 ∷ 0 ∷ 2 ∷ [] in
+    let s : List ℕ = 1 ∷ 2 ∷ 2 ∷ 0 ∷ 1 ∷ 0 ∷ 1 ∷ 32 ∷ 2 ∷ 0 ∷ 1 ∷ 1 ∷ 0 ∷ 2 ∷ [] in
     record {
       start = s;
       calls = example 3 (7 ∷ []) ∷ verdict 3 ∷ read 3 (2 ∷ []) ∷ read 3 (1 ∷ []) ∷ write-back 3 sevens ∷ example 0 (7 ∷ []) ∷ example 4 (7 ∷ []) ∷ ask-list-gap ∷ [];
@@ -174,6 +178,97 @@ case-11 =
           ∷ answered 0 6 s (0 ∷ 0 ∷ 0 ∷ 0 ∷ 1 ∷ 0 ∷ 0 ∷ 0 ∷ 2 ∷ 1 ∷ 32 ∷ 0 ∷ 5 ∷ 2 ∷ 0 ∷ 1 ∷ 2 ∷ 1 ∷ 0 ∷ 0 ∷ 5 ∷ 4 ∷ 0 ∷ 3 ∷ 7 ∷ [])
           ∷ answered 52 0 s (7 ∷ []) ∷ answered 41 0 s (7 ∷ []) ∷ gap-is 1 ∷ [];
     }
+
+-- ---- document 02 (ix): the two orders
+-- n = 3, S(3) = 1 and 3 = 2, in the order in which each list stands
+abbrev right-field-first : List ℕ
+right-field-first = 35 ∷ 1 ∷ 3 ∷ 2 ∷ []
+
+abbrev left-steps-first : List ℕ
+left-steps-first = 3 ∷ 2 ∷ 35 ∷ 1 ∷ []
+
+-- Each list opens with its own order, and is 16 with the other.
+abbrev pub orders-opened : Case
+orders-opened =
+    let s : List ℕ = 3 ∷ 2 ∷ 0 ∷ 0 ∷ right-field-first in
+    record {
+      start = replicate 8 7;
+      calls =
+          open-with 3 1 right-field-first ∷ open-with 3 0 right-field-first
+          ∷ open-with 3 0 left-steps-first ∷ open-with 3 1 left-steps-first ∷ [];
+      expected =
+          answered 16 0 (replicate 8 7) right-field-first ∷ answered 0 0 s right-field-first
+          ∷ answered 16 0 s left-steps-first ∷ answered 0 0 (3 ∷ 2 ∷ 0 ∷ 1 ∷ left-steps-first) left-steps-first ∷ [];
+    }
+
+-- n = 4. Between neighbours of these lists each of the four numbers decides somewhere where the next one, or the rest, would say the opposite: 2 = 1,
+-- S(2) = 1, 3 = 1, 3 = S(1), then by the right field S(3) = 1, 3 = 2, 3 = S(2), by the left steps 3 = 2, 3 = S(2), S(3) = 1, and then 4 = 1. No question
+-- stands twice in either order.
+abbrev pub orders-compared : Case
+orders-compared =
+    let first : List ℕ = 2 ∷ 1 ∷ 34 ∷ 1 ∷ 3 ∷ 1 ∷ 3 ∷ 33 ∷ 35 ∷ 1 ∷ 3 ∷ 2 ∷ 3 ∷ 34 ∷ 4 ∷ 1 ∷ [] in
+    let second : List ℕ = 2 ∷ 1 ∷ 34 ∷ 1 ∷ 3 ∷ 1 ∷ 3 ∷ 33 ∷ 3 ∷ 2 ∷ 3 ∷ 34 ∷ 35 ∷ 1 ∷ 4 ∷ 1 ∷ [] in
+    let twice : List ℕ = 3 ∷ 1 ∷ 3 ∷ 1 ∷ [] in
+    let s : List ℕ = 4 ∷ 8 ∷ 0 ∷ 0 ∷ first in
+    let t : List ℕ = 4 ∷ 8 ∷ 0 ∷ 1 ∷ second in
+    record {
+      start = replicate 20 7;
+      calls = open-with 4 1 first ∷ open-with 4 0 first ∷ open-with 4 0 second ∷ open-with 4 1 second ∷ open-with 4 0 twice ∷ open-with 4 1 twice ∷ [];
+      expected =
+          answered 16 0 (replicate 20 7) first ∷ answered 0 0 s first ∷ answered 16 0 s second ∷ answered 0 0 t second
+          ∷ answered 16 0 t twice ∷ answered 16 0 t twice ∷ [];
+    }
+
+-- 17 fields, another order, one word: 11, then 18, then 12. Another order comes before every fault of the list and of the store's length.
+abbrev pub orders-refused : Case
+orders-refused =
+    let s : List ℕ = 7 ∷ 7 ∷ 7 ∷ [] in
+    record {
+      start = s;
+      calls =
+          open-with 17 2 (1 ∷ []) ∷ open-with 3 2 (1 ∷ []) ∷ open-with 3 1 (1 ∷ []) ∷ open-with 3 4294967295 [] ∷ open-with 3 2 (replicate 42 9)
+          ∷ open-with 3 1 [] ∷ [];
+      expected =
+          answered 11 0 s (1 ∷ []) ∷ answered 18 0 s (1 ∷ []) ∷ answered 12 0 s (1 ∷ []) ∷ answered 18 0 s [] ∷ answered 18 0 s (replicate 42 9)
+          ∷ answered 21 0 s [] ∷ [];
+    }
+
+-- Store of 14 words. 3 = 2 and not S(3) = 1: handle 3, its entries, and example 0 0 0. Opened again, 3 = 2 and S(3) = 1: handle 3, sometimes, and
+-- example 1 0 0.
+abbrev rules-in-order : ℕ → List ℕ → List ℕ → Case
+rules-in-order order list entries =
+    let without : List ℕ = 2 ∷ 3 ∷ 2 ∷ 0 ∷ 2 ∷ 35 ∷ 1 ∷ 0 ∷ 3 ∷ 1 ∷ 0 ∷ 0 ∷ 4 ∷ 0 ∷ 2 ∷ 0 ∷ [] in
+    let both : List ℕ = 2 ∷ 3 ∷ 2 ∷ 0 ∷ 2 ∷ 35 ∷ 1 ∷ 0 ∷ 4 ∷ 0 ∷ 1 ∷ 0 ∷ [] in
+    let opened : List ℕ = 3 ∷ 2 ∷ 0 ∷ order ∷ (list ++ replicate 6 0) in
+    let s : List ℕ = 3 ∷ 2 ∷ 2 ∷ order ∷ (list ++ entries) in
+    let t : List ℕ = 3 ∷ 2 ∷ 2 ∷ order ∷ (list ++ 2 ∷ 1 ∷ 0 ∷ 1 ∷ 2 ∷ 0 ∷ []) in
+    record {
+      start = replicate 14 7;
+      calls =
+          open-with 3 order list ∷ build without ∷ verdict 3 ∷ example 3 (replicate 3 7)
+          ∷ open-with 3 order list ∷ build both ∷ verdict 3 ∷ example 3 (replicate 3 7) ∷ [];
+      expected =
+          answered 0 0 opened list ∷ answered 0 3 s without ∷ answered 0 2 s [] ∷ answered 0 0 s (0 ∷ 0 ∷ 0 ∷ [])
+          ∷ answered 0 0 opened list ∷ answered 0 3 t both ∷ answered 0 2 t [] ∷ answered 0 0 t (1 ∷ 0 ∷ 0 ∷ []) ∷ [];
+    }
+
+-- Order 0: S(3) = 1 is asked first, and 3 = 2 by no. Order 1: 3 = 2 first, and S(3) = 1 by yes.
+abbrev pub rules-by-right-field : Case
+rules-by-right-field = rules-in-order 0 right-field-first (2 ∷ 1 ∷ 0 ∷ 1 ∷ 0 ∷ 2 ∷ [])
+
+abbrev pub rules-by-left-steps : Case
+rules-by-left-steps = rules-in-order 1 left-steps-first (2 ∷ 0 ∷ 1 ∷ 1 ∷ 2 ∷ 0 ∷ [])
+
+-- A list is sound in the order that word 3 names, and not in the other; one that stands in both is sound under either word. Another word 3 is not sound,
+-- and neither are fewer than four words, nor case 6's words without its order. An empty list stands in both orders.
+abbrev pub orders-in-a-store : List Case
+orders-in-a-store =
+    words-tried 0 (3 ∷ 2 ∷ 0 ∷ 0 ∷ right-field-first) ∷ words-tried 22 (3 ∷ 2 ∷ 0 ∷ 1 ∷ right-field-first)
+    ∷ words-tried 0 (3 ∷ 2 ∷ 0 ∷ 1 ∷ left-steps-first) ∷ words-tried 22 (3 ∷ 2 ∷ 0 ∷ 0 ∷ left-steps-first)
+    ∷ words-tried 0 (after-case-6 0) ∷ words-tried 0 (after-case-6 1) ∷ words-tried 22 (after-case-6 2) ∷ words-tried 22 (after-case-6 4294967295)
+    ∷ words-tried 22 (3 ∷ 3 ∷ 4 ∷ 2 ∷ 1 ∷ 3 ∷ 1 ∷ 3 ∷ 2 ∷ 2 ∷ 1 ∷ 0 ∷ 3 ∷ 1 ∷ 0 ∷ 2 ∷ 0 ∷ 3 ∷ 1 ∷ 2 ∷ 4 ∷ [])
+    ∷ words-tried 22 [] ∷ words-tried 22 (replicate 3 0) ∷ words-tried 0 (replicate 4 0) ∷ words-tried 0 (0 ∷ 0 ∷ 0 ∷ 1 ∷ [])
+    ∷ words-tried 22 (0 ∷ 0 ∷ 0 ∷ 2 ∷ []) ∷ []
 
 -- ---- document 02 (vii): tables of entries, each with its root
 -- No entries: a root of 0 is never, 1 always, and 2 no handle. Two, three, five or six words are not whole entries, whichever the root. Handle 3 is not there, with one
@@ -319,7 +414,8 @@ check-limits = record {
 
 abbrev pub cases : List Case
 cases =
-    case-1 ∷ case-2 ∷ case-3 ∷ case-4 ∷ case-5-opened ∷ case-5-short ∷ cases-6-to-8 ∷ case-6-short ∷ case-9 ∷ case-11 ∷ case-11-built ∷ case-12
+    case-1 ∷ case-2 ∷ case-3 ∷ case-4 ∷ case-5-opened ∷ case-5-short ∷ cases-6-to-8 0 ∷ cases-6-to-8 1 ∷ case-6-short ∷ case-9 ∷ case-11 ∷ case-11-built ∷ case-12
     ∷ steps-simplified ∷ steps-built ∷ steps-in-a-store ∷ steps-beyond-in-a-store
     ∷ check-shapes ∷ check-examples ∷ check-rule-8 ∷ check-rules-3-to-7 ∷ check-order ∷ check-terms ∷ check-handles
-    ∷ check-differing-entries ∷ check-limits ∷ []
+    ∷ check-differing-entries ∷ check-limits
+    ∷ orders-opened ∷ orders-compared ∷ orders-refused ∷ rules-by-right-field ∷ rules-by-left-steps ∷ orders-in-a-store

@@ -8,6 +8,7 @@ use crate::entries::equation_of;
 use store::LEAVES;
 use store::wide;
 use terms::Equation;
+use terms::ListOrder;
 use terms::precedes;
 
 // Whether a handle is a leaf, or its entry asks an equation after g.
@@ -19,7 +20,7 @@ fn asks_after(t: &[u32], g: Equation, handle: usize) -> bool
         return true;
     }
     let h = equation_of(entry_of(t, handle - LEAVES));
-    precedes(g, h)
+    precedes(ListOrder::FieldsFirst, g, h)
 }
 
 // Whether rules 3 to 7 do not apply at the i-th entry.

@@ -7,8 +7,8 @@ use Rattle.operations.specs.Handles.{run}
 use Rattle.operations.specs.Operations.{added, build, negate, join, choose}
 use Rattle.store.specs.Entries.{first, is-entry, with-entry}
 use Rattle.store.specs.Meaning.{next, follow}
-use Rattle.store.specs.Open.{question-fault, list-fault, opening, opened-words, open-store}
-use Rattle.store.specs.Sound.{all-below, all-zero, heading-sound, entry-sound, differ-below, sound}
+use Rattle.store.specs.Open.{question-fault, list-fault, opening-in, opening, opened-words, open-store}
+use Rattle.store.specs.Sound.{all-below, all-zero, list-sound, heading-sound, entry-sound, differ-below, sound}
 use Rattle.store.specs.Tree.{tree-within}
 use Rattle.tables.specs.Decoding.{decode}
 use Rattle.tables.specs.Faults.{well-formed, equation-fault, row-fault, rows-fault, table-fault}
@@ -16,18 +16,18 @@ use Rattle.tables.specs.Listed.{on-list}
 use Rattle.tables.specs.Rows.{row-truth, row-truths}
 use Rattle.terms.specs.Form.{is-simplified}
 use Rattle.terms.specs.Meaning.{count}
-use Rattle.terms.specs.Order.{lex}
+use Rattle.terms.specs.Order.{lex, order-named}
 use Rattle.terms.specs.Simplify.{simplify, larger-left, lowered, never-or-question}
 use Rattle.terms.specs.Words.{allows}
 
 -- terms and facts
 unfoldable pub facts-compute : Type 0
-unfolding is-simplified count lex simplify larger-left lowered never-or-question allows plan decide spacing some-sheet
+unfolding is-simplified count lex order-named simplify larger-left lowered never-or-question allows plan decide spacing some-sheet
 facts-compute = Unit {0}
 
 -- the words of a store: opening, soundness, meaning
 unfoldable pub stores-compute : Type 0
-unfolding facts-compute question-fault list-fault opening opened-words open-store all-below all-zero heading-sound entry-sound differ-below sound next follow tree-within
+unfolding facts-compute question-fault list-fault opening-in opening opened-words open-store all-below all-zero list-sound heading-sound entry-sound differ-below sound next follow tree-within
 stores-compute = Unit {0}
 
 -- rule tables

@@ -66,9 +66,9 @@ module _ {limits : Limits} {letters : ℕ → ℕ} {start : Books} (kept-start :
       stands-exact (p .kept .sound) (p .stands) (q .stands) .1 (λ v. law (λ x. meaning (start .words) (letters x) v))
 
 -- Worked out after any list of calls on a store that open has just accepted.
-pub boolean-law : (limits : Limits) (n : ℕ) (list s : List ℕ) → opening limits n list (length s) ≡ Accepted → (calls : List Call)
+pub boolean-law : (limits : Limits) (n order : ℕ) (list s : List ℕ) → opening limits n order list (length s) ≡ Accepted → (calls : List Call)
     → (letters : ℕ → ℕ) (f g : Formula) → BooleanLaw f g → (h k : ℕ) (b : Books)
-    → Worked limits letters (run limits (opened-books n list (length s)) calls) f h b
-    → Worked limits letters (run limits (opened-books n list (length s)) calls) g k b
+    → Worked limits letters (run limits (opened-books n order list (length s)) calls) f h b
+    → Worked limits letters (run limits (opened-books n order list (length s)) calls) g k b
     → h ≡ k
-boolean-law limits n list s e calls letters f g law h k b w u = kept-boolean-law (run-kept limits n list s e calls) {f = f} {g = g} law w u
+boolean-law limits n order list s e calls letters f g law h k b w u = kept-boolean-law (run-kept limits n order list s e calls) {f = f} {g = g} law w u

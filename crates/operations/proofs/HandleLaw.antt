@@ -108,14 +108,14 @@ rule-fields k p i = rests-fields (k .sound) (k .each p i .rests)
 pub first-kept : {limits : Limits} {s : List ℕ} → Sound limits s → Kept limits (first-books s)
 first-kept snd = record { sound = snd; each = with-pair (always-stands snd) (with-pair (never-stands snd) (λ p i. elim i [ ])) }
 
--- "It starts from a store that open has just accepted, with any n, list and length."
-module _ (limits : Limits) (n : ℕ) (list s : List ℕ) (e : opening limits n list (length s) ≡ Accepted) where
-  pub opened-kept : Kept limits (opened-books n list (length s))
-  opened-kept = first-kept (sound-says limits (opened-words n list (length s)) (opened-sound limits n list s e))
+-- "It starts from a store that open has just accepted, with any n, list and length.", and with any order
+module _ (limits : Limits) (n order : ℕ) (list s : List ℕ) (e : opening limits n order list (length s) ≡ Accepted) where
+  pub opened-kept : Kept limits (opened-books n order list (length s))
+  opened-kept = first-kept (sound-says limits (opened-words n order list (length s)) (opened-sound limits n order list s e))
 
   -- the books after any list of calls
-  pub run-kept : (calls : List Call) → Kept limits (run limits (opened-books n list (length s)) calls)
+  pub run-kept : (calls : List Call) → Kept limits (run limits (opened-books n order list (length s)) calls)
   run-kept = kept-run opened-kept
 
-  pub handle-law : (calls : List Call) → HandleLaw (run limits (opened-books n list (length s)) calls .ledger)
+  pub handle-law : (calls : List Call) → HandleLaw (run limits (opened-books n order list (length s)) calls .ledger)
   handle-law calls = kept-law (run-kept calls)

@@ -27,6 +27,7 @@ use Rattle.terms.specs.Meaning.{Valuation}
 use Rattle.diagram.proofs.InsertAgain.{insert-again}
 use Rattle.diagram.proofs.InsertTree.{insert-tree}
 use Rattle.operations.proofs.BuiltCases.{not-both}
+use Rattle.store.proofs.StoreWords.{orders-agree}
 use Rattle.operations.proofs.FinishedInStore.{finished-ascending, finished-reduced, finished-alike}
 use Rattle.operations.proofs.NumberedQuestions.{questions-same}
 use Rattle.operations.proofs.StandingDiagrams.{later-same, stands-alike, rests-later, finished-later, stands-means}
@@ -46,6 +47,8 @@ inserted-later {s = s} {s′ = s′} i = record {
   grows = i .grows;
   older-tree = i .older-tree;
   older-meaning = i .older-meaning;
+  same-fields = i .fields-kept;
+  same-order = orders-agree (i .agree);
   same-questions = ap (λ q. questions-from s′ q 1) (i .questions-kept) ∙ questions-same s s′ (i .question-kept) (question-count s) 1;
   length-kept = i .length-kept;
 }

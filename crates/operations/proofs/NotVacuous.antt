@@ -43,9 +43,9 @@ sound-not-refused {limits} {s} snd c = call-cases limits s (λ o. o .answer ≢ 
     (λ f only e. true≢false (sym (sound-from limits s snd) ∙ only (cc))) c (λ _ _. added-not-refused limits s _)
 
 -- In a run from an accepted open no call answers 22.
-pub never-not-sound : (limits : Limits) (n : ℕ) (list s : List ℕ) → opening limits n list (length s) ≡ Accepted → (calls : List Call) (c : Call)
-    → answer-to limits (run limits (opened-books n list (length s)) calls .words) c .answer ≢ Refused NotSound
-never-not-sound limits n list s e calls = sound-not-refused (run-kept limits n list s e calls .sound)
+pub never-not-sound : (limits : Limits) (n order : ℕ) (list s : List ℕ) → opening limits n order list (length s) ≡ Accepted → (calls : List Call) (c : Call)
+    → answer-to limits (run limits (opened-books n order list (length s)) calls .words) c .answer ≢ Refused NotSound
+never-not-sound limits n order list s e calls = sound-not-refused (run-kept limits n order list s e calls .sound)
 
 -- ---- 51
 module _ {limits : Limits} {s : List ℕ} (snd : Sound limits s) (means : Valuation → Bool) where

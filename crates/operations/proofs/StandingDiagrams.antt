@@ -26,7 +26,7 @@ use Rattle.operations.proofs.RestsOn.{rests-alike, rests-constant}
 
 -- ---- a store after calls
 pub later-same : {limits : Limits} {s : List ℕ} → Sound limits s → Later limits s s
-later-same snd = record { sound = snd; grows = omega arith; older-tree = λ g l. refl; older-meaning = λ g l v. refl; same-questions = refl; length-kept = refl }
+later-same snd = record { sound = snd; grows = omega arith; older-tree = λ g l. refl; older-meaning = λ g l v. refl; same-fields = refl; same-order = refl; same-questions = refl; length-kept = refl }
 
 pub later-on : {limits : Limits} {s s₁ s₂ : List ℕ} → Later limits s s₁ → Later limits s₁ s₂ → Later limits s s₂
 later-on p q = record {
@@ -34,6 +34,8 @@ later-on p q = record {
   grows = omega (arith, p .grows, q .grows);
   older-tree = λ g l. q .older-tree g (omega (arith, p .grows)) ∙ p .older-tree g l;
   older-meaning = λ g l v. q .older-meaning g (omega (arith, p .grows)) v ∙ p .older-meaning g l v;
+  same-fields = q .same-fields ∙ p .same-fields;
+  same-order = q .same-order ∙ p .same-order;
   same-questions = q .same-questions ∙ p .same-questions;
   length-kept = q .length-kept ∙ p .length-kept;
 }

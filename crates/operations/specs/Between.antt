@@ -12,7 +12,7 @@ use Rattle.terms.specs.declared.limits.Limits.{Limits}
 -- any call that is lent the store to be written
 pub data Step : Type 0 where
   call : Call → Step
-  reopen : ℕ → List ℕ → Step
+  reopen : ℕ → ℕ → List ℕ → Step
 
 -- the books after an open on their store
 abbrev pub reopened : Books → Outcome Opened → Books
@@ -20,7 +20,7 @@ reopened b o = record { words = o .words; ledger = if-accepted (o .answer) first
 
 abbrev pub after-step : Limits → Books → Step → Books
 after-step limits b (call c) = after limits b c
-after-step limits b (reopen n list) = reopened b (open-store limits n list (b .words))
+after-step limits b (reopen n order list) = reopened b (open-store limits n order list (b .words))
 
 -- the whole list of them, in turn
 unfoldable pub run-steps : Limits → Books → List Step → Books

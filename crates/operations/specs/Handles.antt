@@ -71,9 +71,10 @@ pub record Books : Type 0 where
 abbrev pub first-books : List ℕ → Books
 first-books s = record { words = s; ledger = first-ledger }
 
--- "It starts from a store that open has just accepted, with any n, list and length.": the books of such a store
-abbrev pub opened-books : ℕ → List ℕ → ℕ → Books
-opened-books n list words = first-books (opened-words n list words)
+-- "It starts from a store that open has just accepted, with any n, list and length.", by document 02 (ix) with any order too: the books of such a
+-- store
+abbrev pub opened-books : ℕ → ℕ → List ℕ → ℕ → Books
+opened-books n order list words = first-books (opened-words n order list words)
 
 -- one call: the ledger "is fed each call's arguments, the lent store among them, and the call's answer"
 abbrev pub after : Limits → Books → Call → Books

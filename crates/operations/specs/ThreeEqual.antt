@@ -18,6 +18,6 @@ outer-equal = 2 ∷ 3 ∷ 1 ∷ 0 ∷ []
 abbrev pub not-outer : List ℕ
 not-outer = 2 ∷ 2 ∷ 1 ∷ 0 ∷ 2 ∷ 3 ∷ 2 ∷ 0 ∷ 4 ∷ 0 ∷ 1 ∷ 0 ∷ 2 ∷ 3 ∷ 1 ∷ 0 ∷ 3 ∷ 3 ∷ 0 ∷ 0 ∷ 4 ∷ 2 ∷ 4 ∷ 0 ∷ []
 
--- the words after building 3 = 2
-abbrev pub after-case-6 : List ℕ
-after-case-6 = 3 ∷ 3 ∷ 4 ∷ 2 ∷ 1 ∷ 3 ∷ 1 ∷ 3 ∷ 2 ∷ 2 ∷ 1 ∷ 0 ∷ 3 ∷ 1 ∷ 0 ∷ 2 ∷ 0 ∷ 3 ∷ 1 ∷ 2 ∷ 4 ∷ []
+-- the words after building 3 = 2, in the order that a number names
+abbrev pub after-case-6 : ℕ → List ℕ
+after-case-6 order = 3 ∷ 3 ∷ 4 ∷ order ∷ 2 ∷ 1 ∷ 3 ∷ 1 ∷ 3 ∷ 2 ∷ 2 ∷ 1 ∷ 0 ∷ 3 ∷ 1 ∷ 0 ∷ 2 ∷ 0 ∷ 3 ∷ 1 ∷ 2 ∷ 4 ∷ []

@@ -15,13 +15,13 @@ use building::join;
 use building::negate;
 use store::open;
 
-// Opens a store for n fields and a list of questions.
+// Opens a store for n fields and a list of questions in the order that a number names.
 #[no_mangle]
-pub extern "C" fn sheet_open(n: u32, list: &[u32], store: &mut [u32]) -> Answer
+pub extern "C" fn sheet_open(n: u32, order: u32, list: &[u32], store: &mut [u32]) -> Answer
     ensures { λ r. ⌜ outcome r (now (store .exit))
-        ≡ answered spec.opened-answer (open-store limit.store-limits n (now (list .entry)) (now (store .entry))) ⌝ }
+        ≡ answered spec.opened-answer (open-store limit.store-limits n order (now (list .entry)) (now (store .entry))) ⌝ }
 {
-    opened_answer(open(n, list, store))
+    opened_answer(open(n, order, list, store))
 }
 
 // Adds the diagram of a rule table.

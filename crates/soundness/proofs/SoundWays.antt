@@ -12,15 +12,18 @@ use lib.Seq.{drop-cons}
 use Rattle.index.specs.Needs.{EntriesFit}
 use Rattle.soundness.specs.Needs.{body-sound}
 use Rattle.store.specs.declared.answer.Opened.{Opened}
-use Rattle.store.specs.Layout.{heading-length, field-count, question-count, used, list-words, entries-start, room}
+use Rattle.store.specs.Layout.{heading-length, field-count, question-count, used, store-order, list-words, entries-start, room}
 use Rattle.store.specs.Open.{list-fault}
 use Rattle.store.specs.Opened.{is-accepted}
-use Rattle.store.specs.Sound.{all-below, all-zero, heading-sound, entry-sound, differ-below, sound}
+use Rattle.store.specs.Sound.{all-below, all-zero, list-sound, heading-sound, entry-sound, differ-below, sound}
 use Rattle.terms.specs.declared.limits.Limits.{Limits}
 use Rattle.terms.specs.declared.limits.TermLimits.{TermLimits}
 use Rattle.terms.specs.Limits.{terms-within}
 use Rattle.terms.specs.Needs.{FitLimits}
-use Rattle.terms.specs.Order.{fields-first}
+use Rattle.terms.specs.declared.order.ListOrder.{ListOrder}
+use Rattle.terms.specs.declared.order.NamedOrder.{NamedOrder}
+use Rattle.terms.specs.declared.order.NamedOrder.the-variants.{Known, Unknown}
+use Rattle.terms.specs.Order.{order-of, order-named}
 use Rattle.store.proofs.Tests.{first-passes, second-passes}
 
 -- ---- the heading
@@ -54,18 +57,28 @@ module _ (limits : Limits) (s : List ℕ) where
         let l : length (list-words s) ≡ 2 * question-count s = simp (length-take, length-drop) (omega arith) in
         omega arith
 
-    pub by-list : {n q : ℕ} {t : TermLimits} {f : Opened} {r : Bool} → n ≡ field-count s → n ≤ limits .terms .field .0 → q ≡ question-count s → q ≤ limits .questions
-        → end ≤ length s → t ≡ terms-within limits n → f ≡ list-fault fields-first t (part s end) (length (part s end) / 2) 0
-        → r ≡ is-accepted f → r ≡ heading-sound limits s
-    unfolding heading-sound
-    by-list en hf eq hq he et ef er =
-        let d = rw (part-is, part-count he, et, en) at ef in
-        er ∙ ap is-accepted d
-        ∙ simp (
-          le-leb (field-count s) (limits .terms .field .0) (omega arith),
-          le-leb (question-count s) (limits .questions) (omega arith),
-          le-leb (entries-start s) (length s) (omega arith),
-        )
+    module _ {w : ℕ} {o : NamedOrder} (ew : w ≡ store-order s) (eo : o ≡ order-named w) where
+      named : o ≡ order-named (store-order s)
+      named = eo ∙ ap order-named ew
+
+      pub no-order : o ≡ Unknown → false ≡ heading-sound limits s
+      unfolding heading-sound list-sound
+      no-order u = rw (← named, u, and-false)
+
+      pub by-list : {n q : ℕ} {order : ListOrder} {t : TermLimits} {f : Opened} {r : Bool}
+          → n ≡ field-count s → n ≤ limits .terms .field .0 → q ≡ question-count s → q ≤ limits .questions → end ≤ length s → o ≡ Known order
+          → t ≡ terms-within limits n → f ≡ list-fault (order-of order) t (part s end) (length (part s end) / 2) 0 → r ≡ is-accepted f → r ≡ heading-sound limits s
+      unfolding heading-sound list-sound
+      by-list en hf eq hq he k et ef er =
+          let d = rw (part-is, part-count he, et, en) at ef in
+          er ∙ ap is-accepted d
+          ∙ rw (
+            le-leb (field-count s) (limits .terms .field .0) (omega arith),
+            le-leb (question-count s) (limits .questions) (omega arith),
+            le-leb (entries-start s) (length s) (omega arith),
+            ← named,
+            k,
+          )
 
   heading-long : {b : Bool} → b ≡ heading-sound limits s → b ≡ true → entries-start s ≤ length s
   unfolding heading-sound
@@ -73,8 +86,7 @@ module _ (limits : Limits) (s : List ℕ) where
       let fields = leb (field-count s) (limits .terms .field .0) in
       let questions = leb (question-count s) (limits .questions) in
       let long = leb (entries-start s) (length s) in
-      let kept = is-accepted (list-fault fields-first (terms-within limits (field-count s)) (list-words s) (question-count s) 0) in
-      leb-true (entries-start s) (length s) (second-passes (fields && questions) long (first-passes (fields && questions && long) kept (sym eb ∙ t)))
+      leb-true (entries-start s) (length s) (second-passes (fields && questions) long (first-passes (fields && questions && long) (list-sound limits s) (sym eb ∙ t)))
 
 -- ---- after the heading
 module _ (limits : Limits) (s : List ℕ) {b : Bool} (eb : b ≡ heading-sound limits s) (t : b ≡ true) where

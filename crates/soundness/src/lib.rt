@@ -17,12 +17,15 @@ use store::is_accepted;
 use store::list_fault;
 use store::question_count;
 use store::room;
+use store::store_order;
 use store::used;
 use store::wide;
 use terms::Limits;
+use terms::NamedOrder;
+use terms::order_named;
 use terms::terms_within;
 
-// Whether n, q and the list keep their rules, and the list lies within the words.
+// Whether n, q and the list keep their rules, in the order that the store names, and the list lies within the words.
 fn heading_sound(limits: Limits, s: &[u32]) -> bool
     ensures { λ r. ⌜ r ≡ spec.heading-sound limits (now (s .entry)) ⌝ }
 {
@@ -42,7 +45,10 @@ fn heading_sound(limits: Limits, s: &[u32]) -> bool
     if s.len() < end {
         return false;
     }
-    is_accepted(list_fault(terms_within(limits, n), &s[start..end]))
+    let NamedOrder::Known(order) = order_named(store_order(s)) else {
+        return false;
+    };
+    is_accepted(list_fault(order, terms_within(limits, n), &s[start..end]))
 }
 
 // Whether a handle that an entry names is a leaf, or names an entry with a larger question number.

@@ -16,7 +16,7 @@ use Rattle.store.specs.Layout.{heading-length, used-place, used, entries
 use Rattle.store.specs.Needs.{HasEntry}
 use Rattle.store.specs.SoundParts.{MayStand, Sound}
 use Rattle.store.proofs.EntryFound.{Absent}
-use Rattle.store.proofs.StoreWords.{fields-agree, questions-agree, list-agrees, entry-agrees}
+use Rattle.store.proofs.StoreWords.{fields-agree, questions-agree, orders-agree, list-agrees, entry-agrees}
 
 module _ (s : List ℕ) (e : Entry) where
   -- where the entry is written
@@ -123,6 +123,8 @@ module _ {limits : Limits} {s : List ℕ} (snd : Sound limits s) (space : used s
         fields-in = omega (arith, snd .fields-in, fields-agree agree);
         questions-in = omega (arith, snd .questions-in, questions-agree agree);
         list-in = omega (arith, snd .list-in, questions-agree agree, long);
+        order = snd .order;
+        order-kept = orders-agree agree ∙ snd .order-kept;
         list-kept = rw (list-agrees agree (snd .list-in) (omega (arith, snd .list-in, long)), fields-agree agree, questions-agree agree) (snd .list-kept);
         used-in = omega (arith, used-added s e next-in, room-agrees limits agree long);
         entry-kept = by-entry s e next-in (MayStand s′)

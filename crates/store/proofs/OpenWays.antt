@@ -12,16 +12,19 @@ use Rattle.terms.specs.declared.term.Term.{Term}
 use Rattle.terms.specs.declared.limits.TermLimits.{TermLimits}
 use Rattle.terms.specs.declared.term.Equation.{Equation}
 use Rattle.terms.specs.Form.{is-simplified}
-use Rattle.terms.specs.Order.{Order, before, fields-first}
+use Rattle.terms.specs.declared.order.ListOrder.{ListOrder}
+use Rattle.terms.specs.declared.order.NamedOrder.{NamedOrder}
+use Rattle.terms.specs.declared.order.NamedOrder.the-variants.{Known, Unknown}
+use Rattle.terms.specs.Order.{Order, before, order-of, order-named}
 use Rattle.terms.specs.Words.{equation, term-of, allows}
 use Rattle.terms.specs.declared.limits.Limits.{Limits}
 use Rattle.store.specs.declared.answer.Opened.{Opened}
 use Rattle.store.specs.declared.answer.Opened.the-variants.{Accepted, Refused}
 use Rattle.store.specs.declared.answer.OpenFault.{OpenFault}
-use Rattle.store.specs.declared.answer.OpenFault.the-variants.{TooManyFields, OddList, TooManyQuestions, OutOfLimits, NotSimplified, NotAbove, TooShort}
+use Rattle.store.specs.declared.answer.OpenFault.the-variants.{TooManyFields, UnknownOrder, OddList, TooManyQuestions, OutOfLimits, NotSimplified, NotAbove, TooShort}
 use Rattle.store.specs.Layout.{heading-length, question-in}
 use Rattle.terms.specs.Limits.{terms-within}
-use Rattle.store.specs.Open.{above-last, question-fault, list-fault, opening, opened-words, opened, open-store}
+use Rattle.store.specs.Open.{above-last, question-fault, list-fault, opening-in, opening, opened-words, opened, open-store}
 use Rattle.store.specs.Opened.{and-then}
 use Rattle.store.specs.Outcome.{outcome}
 
@@ -96,47 +99,56 @@ module _ (order : Order) (limits : TermLimits) (words : List ℕ) where
       list-stop e = stands (list-fault order limits words (n - (k + 1)) (k + 1)) e ∙ sym list-step
 
 -- ---- the order of the refusals
-module _ (limits : Limits) (n : ℕ) (list : List ℕ) (words : ℕ) where
-  pub too-many-fields : limits .terms .field .0 < n → Refused TooManyFields ≡ opening limits n list words
+module _ (order : ListOrder) (limits : Limits) (n : ℕ) (list : List ℕ) (words : ℕ) where
+  pub odd-list : length list % 2 ≡ 1 → Refused OddList ≡ opening-in order limits n list words
+  unfolding opening-in
+  odd-list h = simp (eq-eqb _ _ h)
+
+  module _ (even : length list % 2 ≢ 1) where
+    pub too-many-questions : limits .questions < length list / 2 → Refused TooManyQuestions ≡ opening-in order limits n list words
+    unfolding opening-in
+    too-many-questions h = simp (ne-eqb _ _ even, lt-ltb _ _ h)
+
+    module _ (short : length list / 2 ≤ limits .questions) {t : TermLimits} {f : Opened}
+        (et : t ≡ terms-within limits n) (ef : f ≡ list-fault (order-of order) t list (length list / 2) 0) where
+      then-room : and-then f (cond (ltb words (heading-length + length list)) (Refused TooShort) Accepted) ≡ opening-in order limits n list words
+      unfolding opening-in
+      then-room = simp (ne-eqb _ _ even, le-ltb _ _ short, ef, et)
+
+      pub list-refused : {r : OpenFault} → f ≡ Refused r → f ≡ opening-in order limits n list words
+      list-refused e = stands (cond (ltb words (heading-length + length list)) (Refused TooShort) Accepted) e ∙ then-room
+
+      pub too-short : f ≡ Accepted → words < heading-length + length list → Refused TooShort ≡ opening-in order limits n list words
+      too-short e h = rw (← then-room, e, lt-ltb words (heading-length + length list) h)
+
+      pub accepted : f ≡ Accepted → heading-length + length list ≤ words → Accepted ≡ opening-in order limits n list words
+      accepted e h = rw (← then-room, e, le-ltb words (heading-length + length list) h)
+
+module _ (limits : Limits) (n order : ℕ) (list : List ℕ) (words : ℕ) where
+  pub too-many-fields : limits .terms .field .0 < n → Refused TooManyFields ≡ opening limits n order list words
   unfolding opening
   too-many-fields h = simp (lt-ltb _ _ h)
 
-  module _ (few : n ≤ limits .terms .field .0) where
-    pub odd-list : length list % 2 ≡ 1 → Refused OddList ≡ opening limits n list words
+  module _ (few : n ≤ limits .terms .field .0) {o : NamedOrder} (eo : o ≡ order-named order) where
+    pub unknown-order : o ≡ Unknown → Refused UnknownOrder ≡ opening limits n order list words
     unfolding opening
-    odd-list h = simp (le-ltb _ _ few, eq-eqb _ _ h)
+    unknown-order u = simp (le-ltb _ _ few) (rw (← eo, u))
 
-    module _ (even : length list % 2 ≢ 1) where
-      pub too-many-questions : limits .questions < length list / 2 → Refused TooManyQuestions ≡ opening limits n list words
-      unfolding opening
-      too-many-questions h = simp (le-ltb _ _ few, ne-eqb _ _ even, lt-ltb _ _ h)
-
-      module _ (short : length list / 2 ≤ limits .questions) {t : TermLimits} {f : Opened}
-          (et : t ≡ terms-within limits n) (ef : f ≡ list-fault fields-first t list (length list / 2) 0) where
-        then-room : and-then f (cond (ltb words (heading-length + length list)) (Refused TooShort) Accepted) ≡ opening limits n list words
-        unfolding opening
-        then-room = simp (le-ltb _ _ few, ne-eqb _ _ even, le-ltb _ _ short, ef, et)
-
-        pub list-refused : {r : OpenFault} → f ≡ Refused r → f ≡ opening limits n list words
-        list-refused e = stands (cond (ltb words (heading-length + length list)) (Refused TooShort) Accepted) e ∙ then-room
-
-        pub too-short : f ≡ Accepted → words < heading-length + length list → Refused TooShort ≡ opening limits n list words
-        too-short e h = rw (← then-room, e, lt-ltb words (heading-length + length list) h)
-
-        pub accepted : f ≡ Accepted → heading-length + length list ≤ words → Accepted ≡ opening limits n list words
-        accepted e h = rw (← then-room, e, le-ltb words (heading-length + length list) h)
+    pub known-order : {known : ListOrder} {r : Opened} → o ≡ Known known → r ≡ opening-in known limits n list words → r ≡ opening limits n order list words
+    unfolding opening
+    known-order k e = e ∙ simp (le-ltb _ _ few) (rw (← eo, k))
 
 -- ---- the operation
-module _ (limits : Limits) (n : ℕ) (list s : List ℕ) {o : Opened} (e : o ≡ opening limits n list (length s)) where
+module _ (limits : Limits) (n order : ℕ) (list s : List ℕ) {o : Opened} (e : o ≡ opening limits n order list (length s)) where
   -- a refusal leaves the words as they are
-  pub stays : {r : OpenFault} → o ≡ Refused r → outcome o s ≡ open-store limits n list s
+  pub stays : {r : OpenFault} → o ≡ Refused r → outcome o s ≡ open-store limits n order list s
   unfolding open-store
   stays r = rw (← e, r)
 
-  pub opens : {t : List ℕ} → o ≡ Accepted → t ≡ opened-words n list (length s) → outcome Accepted t ≡ open-store limits n list s
+  pub opens : {t : List ℕ} → o ≡ Accepted → t ≡ opened-words n order list (length s) → outcome Accepted t ≡ open-store limits n order list s
   unfolding open-store
-  opens a w = ap (outcome Accepted) w ∙ ap (λ (b : Opened). opened b n list s) (sym a ∙ e)
+  opens a w = ap (outcome Accepted) w ∙ ap (λ (b : Opened). opened b n order list s) (sym a ∙ e)
 
-pub opens-at : (n : ℕ) (list s : List ℕ) {limits l : Limits} {t : List ℕ} {o : Opened} → l ≡ limits
-    → outcome o t ≡ open-store l n list s → outcome o t ≡ open-store limits n list s
-opens-at n list s e p = rw e at p
+pub opens-at : (n order : ℕ) (list s : List ℕ) {limits l : Limits} {t : List ℕ} {o : Opened} → l ≡ limits
+    → outcome o t ≡ open-store l n order list s → outcome o t ≡ open-store limits n order list s
+opens-at n order list s e p = rw e at p

@@ -13,7 +13,7 @@ use Rattle.terms.specs.declared.limits.Limits.{Limits}
 use Rattle.store.specs.declared.answer.Opened.{Opened}
 use Rattle.store.specs.declared.answer.Opened.the-variants.{Accepted, Refused}
 use Rattle.store.specs.declared.entries.Entry.{Entry}
-use Rattle.store.specs.Layout.{field-count, question-count, used, list-words, entries-start, entry, leaves, room}
+use Rattle.store.specs.Layout.{field-count, question-count, used, store-order, list-words, entries-start, entry, leaves, room}
 use Rattle.terms.specs.Limits.{terms-within}
 use Rattle.store.specs.Open.{list-fault}
 use Rattle.store.specs.Opened.{is-accepted}
@@ -21,8 +21,12 @@ use Rattle.store.specs.Sound as spec
 use Rattle.store.specs.Sound.{all-below}
 use Rattle.store.specs.SoundParts.{EntryKept, Sound}
 use Rattle.store.proofs.Tests.{passes, all-below-says, all-below-from, all-zero-says, all-zero-from}
-use Rattle.terms.specs.Order.{fields-first}
+use Rattle.terms.specs.declared.order.ListOrder.{ListOrder}
+use Rattle.terms.specs.declared.order.NamedOrder.{NamedOrder}
+use Rattle.terms.specs.declared.order.NamedOrder.the-variants.{Known, Unknown}
+use Rattle.terms.specs.Order.{order-of, order-number, order-named}
 use Rattle.terms.proofs.Cases.{by-test, by-lt}
+use Rattle.terms.proofs.QuestionOrder.{number-names, named-number}
 
 accepted-says : (o : Opened) → is-accepted o ≡ true → o ≡ Accepted
 accepted-says Accepted e = refl
@@ -97,18 +101,37 @@ module _ (s : List ℕ) where
   zero-from n f = all-zero-from (drop n s) (λ k. getD-drop n s k 0 ∙ f (n + k) (omega arith))
 
 module _ (limits : Limits) (s : List ℕ) where
+  -- the answer about the list in an order
+  abbrev list-in : ListOrder → Opened
+  list-in order = list-fault (order-of order) (terms-within limits (field-count s)) (list-words s) (question-count s) 0
+
+  list-says : spec.list-sound limits s ≡ true → (order : ListOrder) × (store-order s ≡ order-number order) × (list-in order ≡ Accepted)
+  unfolding spec.list-sound
+  list-says = go (order-named (store-order s)) refl
+    where
+      go : (o : NamedOrder) → order-named (store-order s) ≡ o → spec.list-sound limits s ≡ true
+          → (order : ListOrder) × (store-order s ≡ order-number order) × (list-in order ≡ Accepted)
+      go (Known order) e t = (order, named-number (store-order s) order e, accepted-says (list-in order) (rw e at t))
+      go Unknown e t = absurd (false≢true (rw e at t))
+
+  pub list-from : (order : ListOrder) → store-order s ≡ order-number order → list-in order ≡ Accepted → spec.list-sound limits s ≡ true
+  unfolding spec.list-sound
+  list-from order e k = rw (e, number-names order, k)
+
   pub sound-says : spec.sound limits s ≡ true → Sound limits s
   unfolding spec.sound spec.heading-sound
   sound-says t =
       let unused = entries-start s + 3 * used s in
-      let list = list-fault fields-first (terms-within limits (field-count s)) (list-words s) (question-count s) 0 in
+      let list = list-says (passes (spec.list-sound limits s) (λ f. simp (f, and-false) at t)) in
       let entries : all-below (used s) (spec.entry-sound s) ≡ true =
       passes (all-below (used s) (spec.entry-sound s)) (λ f. simp (f, and-false) at t) in
       record {
         fields-in = leb-true _ _ (passes (leb (field-count s) (limits .terms .field .0)) (λ f. rw f at t));
         questions-in = leb-true _ _ (passes (leb (question-count s) (limits .questions)) (λ f. simp (f, and-false) at t));
         list-in = leb-true _ _ (passes (leb (entries-start s) (length s)) (λ f. simp (f, and-false) at t));
-        list-kept = accepted-says list (passes (is-accepted list) (λ f. simp (f, and-false) at t));
+        order = list .0;
+        order-kept = list .1;
+        list-kept = list .2;
         used-in = leb-true _ _ (passes (leb (used s) (room limits s)) (λ f. simp (f, and-false) at t));
         entry-kept = λ i h. entry-says s i (all-below-says (spec.entry-sound s) (used s) entries i h);
         entries-differ = differ-says s (used s) (passes (spec.differ-below s (used s)) (λ f. simp (f, and-false) at t));
@@ -121,7 +144,7 @@ module _ (limits : Limits) (s : List ℕ) where
     le-leb (field-count s) (limits .terms .field .0) (k .fields-in),
     le-leb (question-count s) (limits .questions) (k .questions-in),
     le-leb (entries-start s) (length s) (k .list-in),
-    k .list-kept,
+    list-from (k .order) (k .order-kept) (k .list-kept),
     le-leb (used s) (room limits s) (k .used-in),
     all-below-from (spec.entry-sound s) (used s) (λ i h. entry-from s i (k .entry-kept i h)),
     differ-from s (used s) (k .entries-differ),

@@ -10,7 +10,7 @@ use Rattle.terms.specs.declared.term.Equation.{Equation}
 use Rattle.terms.specs.declared.limits.TermLimits.{TermLimits}
 use Rattle.terms.specs.Words.{allows}
 use Rattle.terms.specs.Form.{is-simplified}
-use Rattle.terms.specs.Order.{Order, fields-first}
+use Rattle.terms.specs.Order.{Order, order-of}
 use Rattle.terms.proofs.Cases.{by-test}
 use Rattle.terms.proofs.TermKept.{TermKept, allows-says}
 use Rattle.terms.specs.declared.limits.Limits.{Limits}
@@ -52,8 +52,8 @@ module _ {limits : Limits} {s : List ℕ} (snd : Sound limits s) where
   sound-question k h l =
       let within = terms-within limits (field-count s) in
       let q = question s k in
-      let passed = each-accepted fields-first within (list-words s) (question-count s) 0 (snd .list-kept) (k - 1) (omega arith) (omega arith) in
-      let allowed = accepted-allows fields-first within (list-words s) (k - 1) passed in
+      let passed = each-accepted (order-of (snd .order)) within (list-words s) (question-count s) 0 (snd .list-kept) (k - 1) (omega arith) (omega arith) in
+      let allowed = accepted-allows (order-of (snd .order)) within (list-words s) (k - 1) passed in
       record {
         left = allows-says within (q .left) (first-passes (allows within (q .left)) (allows within (q .right)) allowed);
         right = allows-says within (q .right) (second-passes (allows within (q .left)) (allows within (q .right)) allowed);

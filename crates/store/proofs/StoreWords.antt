@@ -14,7 +14,7 @@ use Rattle.terms.specs.Words.{equation, term-of}
 use Rattle.terms.specs.Meaning.{Valuation, truth}
 use Rattle.store.specs.declared.entries.Entry.{Entry}
 use Rattle.store.specs.Grown.{Agree}
-use Rattle.store.specs.Layout.{heading-length, field-count, question-count, list-words, question, entries-start, entry, leaves}
+use Rattle.store.specs.Layout.{heading-length, field-count, question-count, store-order, list-words, question, entries-start, entry, leaves}
 use Rattle.store.specs.Meaning.{follow, meaning}
 use Rattle.store.specs.Tree.{node, tree-within, tree}
 use Rattle.terms.proofs.Cases.{by-test}
@@ -43,6 +43,9 @@ module _ {s s′ : List ℕ} {m : ℕ} (agree : Agree s s′ m) where
 
   pub questions-agree : question-count s′ ≡ question-count s
   questions-agree = agree .word 1 (omega arith) (omega arith)
+
+  pub orders-agree : store-order s′ ≡ store-order s
+  orders-agree = agree .word 3 (omega arith) (omega arith)
 
   list-words-agree : (k : ℕ) → getD (list-words s′) k 0 ≡ getD (list-words s) k 0
   list-words-agree k = elim (decLt k (2 * question-count s)) [

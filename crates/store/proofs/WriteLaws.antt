@@ -9,11 +9,12 @@ use lib.Seq.{paste, paste-zero, paste-suc, take-length, take-at}
 use Rattle.store.specs.Layout.{heading-length}
 use Rattle.store.specs.Open.{opened-words}
 
-pub heading-written : (s : List ℕ) (n q : ℕ) → heading-length ≤ length s → set (set (set s 0 n) 1 q) 2 0 ≡ n ∷ q ∷ 0 ∷ drop heading-length s
-heading-written [] n q h = absurd (omega arith)
-heading-written (a ∷ []) n q h = absurd (omega arith)
-heading-written (a ∷ b ∷ []) n q h = absurd (omega arith)
-heading-written (a ∷ b ∷ c ∷ s) n q h = refl
+pub heading-written : (s : List ℕ) (n q o : ℕ) → heading-length ≤ length s → set (set (set (set s 0 n) 1 q) 2 0) 3 o ≡ n ∷ q ∷ 0 ∷ o ∷ drop heading-length s
+heading-written [] n q o h = absurd (omega arith)
+heading-written (a ∷ []) n q o h = absurd (omega arith)
+heading-written (a ∷ b ∷ []) n q o h = absurd (omega arith)
+heading-written (a ∷ b ∷ c ∷ []) n q o h = absurd (omega arith)
+heading-written (a ∷ b ∷ c ∷ d ∷ s) n q o h = refl
 
 -- ---- copying from a place on
 module _ (d : List ℕ) (at : ℕ) (s : List ℕ) where
@@ -73,14 +74,14 @@ module _ (s : List ℕ) (start : ℕ) where
         ∙ append-nil (take start s ++ zeros s start)
 
 -- ---- all of them
-pub opened-written : (n : ℕ) (list s : List ℕ) {d e f : List ℕ} → heading-length + length list ≤ length s
-    → d ≡ n ∷ length list / 2 ∷ 0 ∷ drop heading-length s
+pub opened-written : (n order : ℕ) (list s : List ℕ) {d e f : List ℕ} → heading-length + length list ≤ length s
+    → d ≡ n ∷ length list / 2 ∷ 0 ∷ order ∷ drop heading-length s
     → e ≡ take heading-length d ++ list ++ drop (heading-length + length list) d
     → f ≡ take (heading-length + length list) e ++ replicate (length e - (heading-length + length list)) 0
-    → f ≡ opened-words n list (length s)
+    → f ≡ opened-words n order list (length s)
 unfolding opened-words
-opened-written n list s {d} {e} {f} h p q r =
-    let front : List ℕ = n ∷ length list / 2 ∷ 0 ∷ list in
+opened-written n order list s {d} {e} {f} h p q r =
+    let front : List ℕ = n ∷ length list / 2 ∷ 0 ∷ order ∷ list in
     let rest : List ℕ = drop (heading-length + length list) d in
     let parts : e ≡ front ++ rest = q ∙ ap (λ (t : List ℕ). take heading-length t ++ list ++ rest) p in
     let long : length e ≡ length s =

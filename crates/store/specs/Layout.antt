@@ -9,9 +9,10 @@ use Rattle.terms.specs.Words.{equation, term-of}
 use Rattle.terms.specs.declared.limits.Limits.{Limits}
 use Rattle.store.specs.declared.entries.Entry.{Entry}
 
--- "Word 0 is n, word 1 the number of questions q (0 to 20), word 2 the entries used."
+-- "Word 0 is n, word 1 the number of questions q (0 to 20), word 2 the entries used." Document 02 (ix): "The store's heading gains a word 3
+-- naming its order ...; questions start at word 4"
 abbrev pub heading-length : ℕ
-heading-length = 3
+heading-length = 4
 
 abbrev pub field-count : List ℕ → ℕ
 field-count s = getD s 0 0
@@ -27,6 +28,9 @@ used s = getD s used-place 0
 
 abbrev pub with-used : List ℕ → ℕ → List ℕ
 with-used s u = set s used-place u
+
+abbrev pub store-order : List ℕ → ℕ
+store-order s = getD s 3 0
 
 -- "Then q questions, two term words each, left first.": the k-th question of a list of words, counted from 0
 abbrev pub question-in : List ℕ → ℕ → Equation
@@ -63,7 +67,7 @@ leaves = 2
 abbrev pub is-handle : List ℕ → ℕ → Bool
 is-handle s handle = ltb handle (used s + leaves)
 
--- "Room is (length - 3 - 2q) / 3 rounded down, at most 4,096 entries."
+-- "Room is (length - 3 - 2q) / 3 rounded down, at most 4,096 entries.", by document 02 (ix) one word more: length - 4 - 2q
 abbrev pub room : Limits → List ℕ → ℕ
 room limits s = min ((length s - entries-start s) / 3) (limits .entries)
 

@@ -6,10 +6,11 @@ use mathlib.Core.List.{List}
 use lib.ListN.{length, getD}
 use Rattle.terms.specs.declared.limits.Limits.{Limits}
 use Rattle.terms.specs.Limits.{terms-within}
-use Rattle.terms.specs.Order.{fields-first}
+use Rattle.terms.specs.declared.order.ListOrder.{ListOrder}
+use Rattle.terms.specs.Order.{order-of, order-number}
 use Rattle.store.specs.declared.answer.Opened.the-variants.{Accepted}
 use Rattle.store.specs.declared.entries.Entry.{Entry}
-use Rattle.store.specs.Layout.{field-count, question-count, used, list-words, entries-start, entry, leaves, room}
+use Rattle.store.specs.Layout.{field-count, question-count, used, store-order, list-words, entries-start, entry, leaves, room}
 use Rattle.store.specs.Open.{list-fault}
 
 -- an entry keeps the rules as the i-th of a store
@@ -29,7 +30,9 @@ pub record Sound (limits : Limits) (s : List ℕ) : Type 0 where
   pub fields-in : field-count s ≤ limits .terms .field .0
   pub questions-in : question-count s ≤ limits .questions
   pub list-in : entries-start s ≤ length s
-  pub list-kept : list-fault fields-first (terms-within limits (field-count s)) (list-words s) (question-count s) 0 ≡ Accepted
+  pub order : ListOrder
+  pub order-kept : store-order s ≡ order-number order
+  pub list-kept : list-fault (order-of order) (terms-within limits (field-count s)) (list-words s) (question-count s) 0 ≡ Accepted
   pub used-in : used s ≤ room limits s
   pub entry-kept : (i : ℕ) → i < used s → EntryKept s i
   pub entries-differ : (j i : ℕ) → j < i → i < used s → entry s j ≢ entry s i

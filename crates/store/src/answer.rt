@@ -1,4 +1,4 @@
-// The answer of opening, and document 01's numbers for it.
+// The answer of opening, and the documents' numbers for it.
 ghost use mathlib.Core.Path.{_≡_};
 ghost use Rattle.store.specs.Opened as spec;
 
@@ -8,9 +8,10 @@ pub enum Opened {
     Refused(OpenFault),
 }
 
-// A rule that a list, or the store that is lent for it, breaks.
+// A rule that what opening is given breaks: the number of fields, the order, the list, or the store that is lent for it.
 pub enum OpenFault {
     TooManyFields,
+    UnknownOrder,
     OddList,
     TooManyQuestions,
     OutOfLimits,
@@ -25,6 +26,7 @@ fn open_fault_number(f: OpenFault) -> u32
 {
     match f {
         OpenFault::TooManyFields => 11,
+        OpenFault::UnknownOrder => 18,
         OpenFault::OddList => 12,
         OpenFault::TooManyQuestions => 13,
         OpenFault::OutOfLimits => 14,

@@ -28,5 +28,6 @@ pub use words::question_count;
 pub use words::right_word;
 pub use words::room;
 pub use words::set_used;
+pub use words::store_order;
 pub use words::used;
 pub use words::wide;

@@ -9,8 +9,8 @@ use terms::Equation;
 use terms::Limits;
 use terms::term_of;
 
-// The words before the list: n, the number of questions, and the entries used.
-pub const HEADING: usize = 3;
+// The words before the list: n, the number of questions, the entries used, and the order.
+pub const HEADING: usize = 4;
 
 // The handles of the leaves never and always come before those of the entries.
 pub const LEAVES: usize = 2;
@@ -46,6 +46,14 @@ pub fn used(s: &[u32]) -> u32
     s[2]
 }
 
+// The number that names the order of the list.
+pub fn store_order(s: &[u32]) -> u32
+    requires { ⌜ layout.heading-length ≤ length (now s) ⌝ }
+    ensures { λ r. ⌜ r ≡ layout.store-order (now (s .entry)) ⌝ }
+{
+    s[3]
+}
+
 // Writes the number of entries used.
 pub fn set_used(store: &mut [u32], entries: u32)
     requires { ⌜ layout.heading-length ≤ length (now store) ⌝ }
@@ -54,14 +62,15 @@ pub fn set_used(store: &mut [u32], entries: u32)
     store[2] = entries;
 }
 
-// Writes the number of fields, the number of questions, and that no entries are used.
-pub fn write_heading(n: u32, questions: u32, store: &mut [u32])
+// Writes the number of fields, the number of questions, that no entries are used, and the order.
+pub fn write_heading(n: u32, questions: u32, order: u32, store: &mut [u32])
     requires { ⌜ layout.heading-length ≤ length (now store) ⌝ }
-    ensures { λ _. ⌜ now (store .exit) ≡ n ∷ questions ∷ 0 ∷ drop layout.heading-length (now (store .entry)) ⌝ }
+    ensures { λ _. ⌜ now (store .exit) ≡ n ∷ questions ∷ 0 ∷ order ∷ drop layout.heading-length (now (store .entry)) ⌝ }
 {
     store[0] = n;
     store[1] = questions;
     store[2] = 0;
+    store[3] = order;
 }
 
 // Whether a handle is one of the store's.

@@ -1,16 +1,20 @@
 -- Comparing lists of numbers one after the other is a strict total order on lists of one length, so an order of questions is one if the
--- numbers that it compares tell all questions apart.
+-- numbers that it compares tell all questions apart. The two orders in which a list can stand have two numbers.
 use Prim.Native.Nat.{ℕ, _<_}
-use mathlib.Core.Path.{_≡_, refl, sym, ap₂, _∙_}
+use mathlib.Core.Path.{_≡_, refl, sym, ap, ap₂, _∙_}
 use mathlib.Core.Logic.{_≢_, _⊎_, inl, inr}
-use mathlib.Core.Bool.{Bool, true, false, false≢true, _&&_, _||_}
+use mathlib.Core.Bool.{Bool, true, false, false≢true, cond, _&&_, _||_}
 use mathlib.Core.List.{List, [], _∷_}
 use native.Mathlib.Omega.{arith}
 use borrow.Author.Tests.{lt-ltb, le-ltb, eq-eqb, ne-eqb}
 use lib.Dec.{eqb}
 use lib.ListN.{length}
+use Rattle.terms.specs.declared.order.ListOrder.{ListOrder}
+use Rattle.terms.specs.declared.order.ListOrder.the-variants.{FieldsFirst, LeftFirst}
+use Rattle.terms.specs.declared.order.NamedOrder.{NamedOrder}
+use Rattle.terms.specs.declared.order.NamedOrder.the-variants.{Known, Unknown}
 use Rattle.terms.specs.declared.term.Equation.{Equation}
-use Rattle.terms.specs.Order.{lex, Order, fields-first, before, StrictTotal}
+use Rattle.terms.specs.Order.{lex, Order, fields-first, left-first, before, StrictTotal, order-of, order-number, order-named}
 use Rattle.terms.proofs.Cases.{by-eq, by-lt}
 use Rattle.terms.proofs.Numbers.{equations-equal}
 
@@ -71,5 +75,39 @@ strict-total order same tells = record {
   total = λ p q n. lex-total (order p) (order q) (same p q) (λ e. n (tells p q e));
 }
 
+-- Each of the two orders compares the four numbers that an equation has.
 pub fields-first-strict-total : StrictTotal (before fields-first)
 fields-first-strict-total = strict-total fields-first (λ p q. refl) (λ p q e. equations-equal p q (cc) (cc) (cc) (cc))
+
+pub left-first-strict-total : StrictTotal (before left-first)
+left-first-strict-total = strict-total left-first (λ p q. refl) (λ p q e. equations-equal p q (cc) (cc) (cc) (cc))
+
+-- Both orders in which a list can stand are strict and total on all equations.
+pub orders-strict-total : (order : ListOrder) → StrictTotal (before (order-of order))
+orders-strict-total FieldsFirst = fields-first-strict-total
+orders-strict-total LeftFirst = left-first-strict-total
+
+-- ---- the numbers of the orders
+-- Each order's number names it,
+pub number-names : (order : ListOrder) → order-named (order-number order) ≡ Known order
+unfolding order-named
+number-names FieldsFirst = refl
+number-names LeftFirst = refl
+
+-- a number names no order but the one that has it,
+pub named-number : (k : ℕ) (order : ListOrder) → order-named k ≡ Known order → k ≡ order-number order
+unfolding order-named
+named-number k order =
+    by-eq (λ t. cond t (Known FieldsFirst) (cond (eqb k 1) (Known LeftFirst) Unknown) ≡ Known order → k ≡ order-number order) k 0
+    (λ z e. z ∙ ap number-of e)
+    (λ _. by-eq (λ t. cond t (Known LeftFirst) Unknown ≡ Known order → k ≡ order-number order) k 1
+    (λ o e. o ∙ ap number-of e) (λ _ e. absurd (let z : _≡_ {A = ℕ} 0 1 = cc in omega arith)))
+  where
+    number-of : NamedOrder → ℕ
+    number-of (Known o) = order-number o
+    number-of Unknown = 0
+
+-- and a number that no order has names none.
+pub unknown-number : (k : ℕ) → ((order : ListOrder) → k ≢ order-number order) → order-named k ≡ Unknown
+unfolding order-named
+unknown-number k other = simp (ne-eqb k 0 (other FieldsFirst), ne-eqb k 1 (other LeftFirst))

@@ -1,5 +1,7 @@
 -- What the code relies on, and no claim.
-use Prim.Native.Nat.{_+_, _*_, _≤_, _<_, _^_}
+use Prim.Native.Nat.{ℕ, _+_, _*_, _≤_, _<_, _^_}
+use mathlib.Core.List.{List, [], _∷_}
+use Rattle.terms.specs.declared.order.Compared.{Compared}
 use Rattle.terms.specs.declared.simplification.Guard.{Guard}
 use Rattle.terms.specs.declared.simplification.Guard.the-variants as guard
 use Rattle.terms.specs.declared.limits.Limits.{Limits}
@@ -18,3 +20,7 @@ abbrev pub HasWords : Guard → Type 0
 HasWords guard.Never = Unit {0}
 HasWords guard.Always = Unit {0}
 HasWords (guard.Question e) = (word-of (e .left) < 2 ^ 32) × (word-of (e .right) < 2 ^ 32)
+
+-- compared numbers as a list
+abbrev pub numbers : Compared → List ℕ
+numbers c = c .first ∷ c .second ∷ c .third ∷ c .fourth ∷ []

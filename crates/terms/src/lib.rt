@@ -1,5 +1,6 @@
 // Terms, equations of two terms, and simplifying them.
 mod limits;
+mod order;
 mod question;
 mod simplification;
 mod term;
@@ -12,8 +13,11 @@ pub use limits::TermLimits;
 pub use limits::limits_of_store;
 pub use limits::term_limits;
 pub use limits::terms_within;
+pub use order::ListOrder;
+pub use order::NamedOrder;
+pub use order::order_named;
+pub use order::precedes;
 pub use question::is_simplified;
-pub use question::precedes;
 pub use simplification::Guard;
 pub use simplification::Simplified;
 pub use simplification::SimplifyAnswer;

@@ -1,4 +1,4 @@
--- What joining in both orders is on each way through the code: a refused call ends it, and after an accepted one the rest goes on with its words.
+-- What joining both ways round is on each way through the code: a refused call ends it, and after an accepted one the rest goes on with its words.
 use Prim.Native.Nat.{ℕ}
 use mathlib.Core.Path.{_≡_, sym, subst}
 use mathlib.Core.List.{List}
@@ -18,16 +18,16 @@ use Rattle.witness.specs.Joined.{SameHandles, after-opening, after-build
 use Rattle.witness.proofs.JoinsAlike.{joins-alike}
 
 -- ---- the ways
-module _ (limits : Limits) (n : ℕ) (list first second s : List ℕ) where
+module _ (limits : Limits) (n order : ℕ) (list first second s : List ℕ) where
   -- what the function promises
   abbrev Promised : Joins → List ℕ → Type 0
-  Promised r w = (outcome r w ≡ joined-both-ways limits n list first second s) × SameHandles r
+  Promised r w = (outcome r w ≡ joined-both-ways limits n order list first second s) × SameHandles r
 
   -- the handles are equal, since those of the definition are
-  promised : {r : Joins} {w : List ℕ} → outcome r w ≡ joined-both-ways limits n list first second s → Promised r w
-  promised e = (e, subst (λ (o : Outcome Joins). SameHandles (o .answer)) (sym e) (joins-alike limits n list first second s))
+  promised : {r : Joins} {w : List ℕ} → outcome r w ≡ joined-both-ways limits n order list first second s → Promised r w
+  promised e = (e, subst (λ (o : Outcome Joins). SameHandles (o .answer)) (sym e) (joins-alike limits n order list first second s))
 
-  module _ {o : Opened} {w₀ : List ℕ} (p₀ : outcome o w₀ ≡ open-store limits n list s) where
+  module _ {o : Opened} {w₀ : List ℕ} (p₀ : outcome o w₀ ≡ open-store limits n order list s) where
     pub not-open : {f : OpenFault} → o ≡ opened.Refused f → Promised Refused w₀
     unfolding joined-both-ways after-opening after-building
     not-open t = promised (rw (← p₀, t))

@@ -1,4 +1,4 @@
--- Two rules joined in both orders have one handle, by the handle law: and is alike in truth either way round.
+-- Two rules joined both ways round have one handle, by the handle law: and is alike in truth either way round.
 use Prim.Native.Nat.{ℕ}
 use mathlib.Core.Path.{_≡_, refl, sym, ap₂, _∙_}
 use mathlib.Core.Bool.{Bool, true, false, _&&_}
@@ -44,9 +44,9 @@ known : {limits : Limits} {b : Books} → Kept limits b → (h : ℕ) (r : Rule)
 known k h r i v = sym (rule-is-meaning k h v) ∙ stands-means (k .sound) (k .each (pair h r) i) v
 
 -- ---- the five calls
-module _ (limits : Limits) (n : ℕ) (list s first second : List ℕ) (e : opening limits n list (length s) ≡ opened.Accepted) (a b c d : ℕ) where
+module _ (limits : Limits) (n order : ℕ) (list s first second : List ℕ) (e : opening limits n order list (length s) ≡ opened.Accepted) (a b c d : ℕ) where
   abbrev books₀ : Books
-  books₀ = opened-books n list (length s)
+  books₀ = opened-books n order list (length s)
 
   abbrev books₁ : Books
   books₁ = after limits books₀ (build first)
@@ -64,11 +64,11 @@ module _ (limits : Limits) (n : ℕ) (list s first second : List ℕ) (e : openi
       (e₃ : answer-at (join a b) books₂ ≡ Handle c) (e₄ : answer-at (join b a) books₃ ≡ Handle d) where
     kept₂ : Kept limits books₂
     unfolding run
-    kept₂ = run-kept limits n list s e (build first ∷ build second ∷ [])
+    kept₂ = run-kept limits n order list s e (build first ∷ build second ∷ [])
 
     kept₃ : Kept limits books₃
     unfolding run
-    kept₃ = run-kept limits n list s e (build first ∷ build second ∷ join a b ∷ [])
+    kept₃ = run-kept limits n order list s e (build first ∷ build second ∷ join a b ∷ [])
 
     first-in : In (pair a (rule-meaning first)) (books₂ .ledger)
     first-in = stays (books₁ .ledger) (rule-meaning second) (answer-at (build second) books₁) b e₂ (pair a (rule-meaning first))
@@ -95,20 +95,20 @@ module _ (limits : Limits) (n : ℕ) (list s first second : List ℕ) (e : openi
 
     joins-equal : c ≡ d
     unfolding run
-    joins-equal = handle-law limits n list s e (build first ∷ build second ∷ join a b ∷ join b a ∷ []) (pair c forward) (pair d backward)
+    joins-equal = handle-law limits n order list s e (build first ∷ build second ∷ join a b ∷ join b a ∷ []) (pair c forward) (pair d backward)
         (stays (books₃ .ledger) backward (answer-at (join b a) books₃) d e₄ (pair c forward)
         (entered (books₂ .ledger) forward (answer-at (join a b) books₂) c e₃))
         (entered (books₃ .ledger) backward (answer-at (join b a) books₃) d e₄) .1 alike
 
 -- ---- a claim about what follows a call, which is accepted or refused
 module _ (P : Outcome Joins → Type 0) where
-  by-opened : (limits : Limits) (n : ℕ) (list s : List ℕ) (rest : List ℕ → Outcome Joins)
-      → (opening limits n list (length s) ≡ opened.Accepted → P (rest (opened-words n list (length s)))) → P (outcome Refused s)
-      → P (after-opening (open-store limits n list s) rest)
+  by-opened : (limits : Limits) (n order : ℕ) (list s : List ℕ) (rest : List ℕ → Outcome Joins)
+      → (opening limits n order list (length s) ≡ opened.Accepted → P (rest (opened-words n order list (length s)))) → P (outcome Refused s)
+      → P (after-opening (open-store limits n order list s) rest)
   unfolding open-store after-opening
-  by-opened limits n list s rest goes-on stops = go (opening limits n list (length s)) refl
+  by-opened limits n order list s rest goes-on stops = go (opening limits n order list (length s)) refl
     where
-      go : (o : Opened) → opening limits n list (length s) ≡ o → P (after-opening (spec.opened o n list s) rest)
+      go : (o : Opened) → opening limits n order list (length s) ≡ o → P (after-opening (spec.opened o n order list s) rest)
       go opened.Accepted e = goes-on e
       go (opened.Refused f) e = stops
 
@@ -121,12 +121,12 @@ module _ (P : Outcome Joins → Type 0) where
 abbrev Alike : Outcome Joins → Type 0
 Alike o = SameHandles (o .answer)
 
-pub joins-alike : (limits : Limits) (n : ℕ) (list first second s : List ℕ) → SameHandles (joined-both-ways limits n list first second s .answer)
+pub joins-alike : (limits : Limits) (n order : ℕ) (list first second s : List ℕ) → SameHandles (joined-both-ways limits n order list first second s .answer)
 unfolding joined-both-ways
-joins-alike limits n list first second s =
-    by-opened Alike limits n list s _ (λ e.
+joins-alike limits n order list first second s =
+    by-opened Alike limits n order list s _ (λ e.
     by-built Alike _ _ (λ a e₁.
     by-built Alike _ _ (λ b e₂.
     by-built Alike _ _ (λ c e₃.
     by-built Alike _ _ (λ d e₄.
-    joins-equal limits n list s first second e a b c d e₁ e₂ e₃ e₄) tt) tt) tt) tt) tt
+    joins-equal limits n order list s first second e a b c d e₁ e₂ e₃ e₄) tt) tt) tt) tt) tt

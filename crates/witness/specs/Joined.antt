@@ -1,4 +1,4 @@
--- Joining two rules in both orders: the calls one after the other, each by the definition that its function's promise names.
+-- Joining two rules both ways round: the calls one after the other, each by the definition that its function's promise names.
 use Prim.Native.Nat.{ℕ}
 use mathlib.Core.Path.{_≡_}
 use mathlib.Core.List.{List}
@@ -21,10 +21,10 @@ after-opening o rest = if-accepted (o .answer) (rest (o .words)) (λ f. outcome 
 unfoldable pub after-building : Outcome Built → (ℕ → List ℕ → Outcome Joins) → Outcome Joins
 after-building o rest = if-built (o .answer) (λ h. rest h (o .words)) (λ f. outcome Refused (o .words))
 
--- Opens a store, builds two rules, and joins them in both orders.
-unfoldable pub joined-both-ways : Limits → ℕ → List ℕ → List ℕ → List ℕ → List ℕ → Outcome Joins
-joined-both-ways limits n list first second s =
-    after-opening (open-store limits n list s) (λ w₀.
+-- Opens a store, builds two rules, and joins them both ways round.
+unfoldable pub joined-both-ways : Limits → ℕ → ℕ → List ℕ → List ℕ → List ℕ → List ℕ → Outcome Joins
+joined-both-ways limits n order list first second s =
+    after-opening (open-store limits n order list s) (λ w₀.
     after-building (operation.build limits w₀ first) (λ a w₁.
     after-building (operation.build limits w₁ second) (λ b w₂.
     after-building (operation.join limits w₂ a b) (λ c w₃.

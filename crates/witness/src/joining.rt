@@ -1,4 +1,4 @@
-// Joining two rules in both orders.
+// Joining two rules both ways round.
 ghost use mathlib.Core.Path.{_≡_};
 ghost use Rattle.store.specs.Outcome.{outcome};
 ghost use Rattle.terms.specs.Limits as limit;
@@ -9,25 +9,26 @@ use operations::Built;
 use store::Opened;
 use store::open;
 
-// The handles of two rules joined in both orders, where every call is accepted.
+// The handles of two rules joined both ways round, where every call is accepted.
 pub enum Joins {
     Both { one: u32, other: u32 },
     Refused,
 }
 
-// Opens a store, builds two rules, and joins them in both orders.
+// Opens a store, builds two rules, and joins them both ways round.
 pub fn join_both_ways(
     n: u32,
+    order: u32,
     list: &[u32],
     first: &[u32],
     second: &[u32],
     store: &mut [u32],
 ) -> Joins
     ensures { λ r. ⌜ outcome r (now (store .exit))
-        ≡ joined-both-ways limit.store-limits n (now (list .entry)) (now (first .entry)) (now (second .entry)) (now (store .entry)) ⌝ }
+        ≡ joined-both-ways limit.store-limits n order (now (list .entry)) (now (first .entry)) (now (second .entry)) (now (store .entry)) ⌝ }
     ensures { λ r. ⌜ SameHandles r ⌝ }
 {
-    let opened = open(n, list, store);
+    let opened = open(n, order, list, store);
     let Opened::Accepted = opened else {
         return Joins::Refused;
     };

@@ -28,7 +28,7 @@ use Rattle.terms.specs.declared.simplification.Guard.the-variants.{Question}
 use Rattle.terms.specs.declared.term.Equation as term
 use Rattle.terms.specs.Form.{is-simplified}
 use Rattle.terms.specs.Limits.{terms-within}
-use Rattle.terms.specs.Order.{Order, fields-first}
+use Rattle.terms.specs.Order.{Order, order-of}
 use Rattle.terms.specs.Simplify.{simplify}
 use Rattle.terms.specs.Words.{allows}
 use Rattle.writing.specs.WriteBack.{reachable, marked-before, written-rows, written-count}
@@ -77,11 +77,11 @@ module _ {limits : Limits} {s : List ℕ} (snd : Sound limits s) where
   question-fine : (j : ℕ) → 1 ≤ j → j ≤ question-count s → equation-fault within s (question s j) ≡ none
   unfolding equation-fault
   question-fine j first last =
-      let passed : question-fault fields-first within (list-words s) (j - 1) ≡ Accepted =
-      each-accepted fields-first within (list-words s) (question-count s) 0 (snd .list-kept) (j - 1) (omega arith) (omega arith) in
-      let allowed : (allows within (question s j .left) && allows within (question s j .right)) ≡ true = accepted-allows fields-first within (list-words s) (j - 1) passed in
+      let passed : question-fault (order-of (snd .order)) within (list-words s) (j - 1) ≡ Accepted =
+      each-accepted (order-of (snd .order)) within (list-words s) (question-count s) 0 (snd .list-kept) (j - 1) (omega arith) (omega arith) in
+      let allowed : (allows within (question s j .left) && allows within (question s j .right)) ≡ true = accepted-allows (order-of (snd .order)) within (list-words s) (j - 1) passed in
       let stays : simplify (question s j) ≡ Question (question s j) =
-      simplified-stays (question s j) (is-simplified-says (question s j) (accepted-simplified fields-first within (list-words s) (j - 1) passed)) in
+      simplified-stays (question s j) (is-simplified-says (question s j) (accepted-simplified (order-of (snd .order)) within (list-words s) (j - 1) passed)) in
       let listed : guard-listed s (simplify (question s j)) ≡ true = rw stays (numbered-listed s j (question-count s) first last) in
       rw (allowed, listed)
 

@@ -1,6 +1,6 @@
--- `heading_sound` meets its contract: the first test that fails decides, and else the list.
+-- `heading_sound` meets its contract: the first test that fails decides, and else the list in the order that the store names.
 use borrow.Author.Needs.{needs}
-use Rattle.soundness.proofs.SoundWays.{heading-short, too-many-fields, too-many-questions, list-cut, by-list}
+use Rattle.soundness.proofs.SoundWays.{heading-short, too-many-fields, too-many-questions, list-cut, no-order, by-list}
 use Rattle.soundness.proofs.heading_sound.Statement.{statement}
 use Rattle.soundness.proofs.heading_sound.Tie as tie
 
@@ -25,6 +25,21 @@ entries-start-requires c κs = search needs
 returns-4 : tie.Need-returns-4
 returns-4 c = search (needs, list-cut)
 
+store-order-requires : tie.Need-store-order-requires
+store-order-requires c κs = search needs
+
+order-named-requires : tie.Need-order-named-requires
+order-named-requires c κs = search needs
+
+enum-known-order : tie.Need-enum-known-order
+enum-known-order c = search needs
+
+enum-told : tie.Need-enum-told
+enum-told c = search needs
+
+returns-5 : tie.Need-returns-5
+returns-5 c = search (needs, no-order)
+
 terms-within-requires : tie.Need-terms-within-requires
 terms-within-requires c κs = search needs
 
@@ -46,8 +61,8 @@ list-fault-requires c κs = search needs
 is-accepted-requires : tie.Need-is-accepted-requires
 is-accepted-requires c κs = search needs
 
-returns-5 : tie.Need-returns-5
-returns-5 c = search (needs, by-list)
+returns-6 : tie.Need-returns-6
+returns-6 c = search (needs, by-list)
 
 pub heading-sound-spec : {M : Type 1} → statement M
 heading-sound-spec =
@@ -60,6 +75,11 @@ heading-sound-spec =
     returns-3
     entries-start-requires
     returns-4
+    store-order-requires
+    order-named-requires
+    enum-known-order
+    enum-told
+    returns-5
     terms-within-requires
     mul-list-fault
     sub-list-fault
@@ -67,4 +87,4 @@ heading-sound-spec =
     part-list-fault-end
     list-fault-requires
     is-accepted-requires
-    returns-5)
+    returns-6)

@@ -3,17 +3,18 @@ use Prim.Native.Nat.{_≤_, _-_, _/_}
 use mathlib.Core.Path.{_≡_}
 use borrow.Author.Needs.{needs}
 use lib.ListN.{length}
-use Rattle.terms.specs.Order.{fields-first}
+use Rattle.terms.specs.Order.{order-of}
 use Rattle.store.specs.Open.{list-fault}
 use Rattle.store.proofs.OpenWays.{list-start, list-end, list-next, list-stop}
 use Rattle.store.proofs.opening.list_fault.Statement.{statement}
 use Rattle.store.proofs.opening.list_fault.Tie as tie
 
 abbrev Inv-loop : tie.InvT-loop
-Inv-loop limits list k₀ k = (k ≤ length list / 2) × (list-fault fields-first limits list (length list / 2) 0 ≡ list-fault fields-first limits list (length list / 2 - k) k)
+Inv-loop order limits list k₀ k =
+    (k ≤ length list / 2) × (list-fault (order-of order) limits list (length list / 2) 0 ≡ list-fault (order-of order) limits list (length list / 2 - k) k)
 
 abbrev μ-loop : tie.MeasureT-loop
-μ-loop limits list k₀ k = length list / 2 - k
+μ-loop order limits list k₀ k = length list / 2 - k
 
 loop-holds : tie.Need-loop-holds Inv-loop μ-loop
 loop-holds c = search (needs, list-start)

@@ -1,4 +1,4 @@
--- `write_heading` meets its contract: it stores the first three words.
+-- `write_heading` meets its contract: it stores the first four words.
 use native.Mathlib.Omega.{arith}
 use borrow.Author.Needs.{needs}
 use lib.ListN.{length-set}
@@ -13,7 +13,10 @@ slice-write-store-2 : tie.Need-slice-write-store-2
 slice-write-store-2 c = simp length-set (omega arith)
 
 slice-write-store-3 : tie.Need-slice-write-store-3
-slice-write-store-3 c = search needs
+slice-write-store-3 c = simp length-set (omega arith)
+
+slice-write-store-4 : tie.Need-slice-write-store-4
+slice-write-store-4 c = search needs
 
 same-length : tie.Need-same-length
 same-length c = search needs
@@ -24,4 +27,4 @@ returns c = search (needs, heading-written)
 pub write-heading-spec : {M : Type 1} → statement M
 write-heading-spec =
     tie.close
-    (tie.spec slice-write-store slice-write-store-2 slice-write-store-3 same-length returns)
+    (tie.spec slice-write-store slice-write-store-2 slice-write-store-3 slice-write-store-4 same-length returns)

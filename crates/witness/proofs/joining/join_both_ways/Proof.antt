@@ -20,7 +20,7 @@ same-length c = search needs
 returns : tie.Need-returns
 returns c =
     let opened = c .before .before in
-    not-open store-limits _ _ _ _ _ (opened .before .before .open .ensures) (c .enum-told2 .given .1)
+    not-open store-limits _ _ _ _ _ _ (opened .before .before .open .ensures) (c .enum-told2 .given .1)
 
 build-requires : tie.Need-build-requires
 build-requires c κs = search needs
@@ -39,7 +39,7 @@ returns-2 c =
     let first = c .before .before in
     let told-opened = first .before .before .before .before in
     let opened = told-opened .before .before in
-    no-first store-limits _ _ _ _ _ (opened .before .before .open .ensures) (told-opened .enum-told .given .1)
+    no-first store-limits _ _ _ _ _ _ (opened .before .before .open .ensures) (told-opened .enum-told .given .1)
     (first .before .before .build .ensures) (c .enum-told3 .given .1)
 
 build-requires-2 : tie.Need-build-requires-2
@@ -61,7 +61,7 @@ returns-3 c =
     let first = told-first .before .before .before in
     let told-opened = first .before .before .before .before in
     let opened = told-opened .before .before in
-    no-second store-limits _ _ _ _ _ (opened .before .before .open .ensures) (told-opened .enum-told .given .1)
+    no-second store-limits _ _ _ _ _ _ (opened .before .before .open .ensures) (told-opened .enum-told .given .1)
     (first .before .before .build .ensures) (told-first .before .one .given .1)
     (second .before .before .build2 .ensures) (c .enum-told4 .given .1)
 
@@ -86,7 +86,7 @@ returns-4 c =
     let first = told-first .before .before .before in
     let told-opened = first .before .before .before .before in
     let opened = told-opened .before .before in
-    no-forward store-limits _ _ _ _ _ (opened .before .before .open .ensures) (told-opened .enum-told .given .1)
+    no-forward store-limits _ _ _ _ _ _ (opened .before .before .open .ensures) (told-opened .enum-told .given .1)
     (first .before .before .build .ensures) (told-first .before .one .given .1)
     (second .before .before .build2 .ensures) (told-second .before .other .given .1)
     (forward .before .before .join .ensures) (c .enum-told5 .given .1)
@@ -114,7 +114,7 @@ returns-5 c =
     let first = told-first .before .before .before in
     let told-opened = first .before .before .before .before in
     let opened = told-opened .before .before in
-    no-backward store-limits _ _ _ _ _ (opened .before .before .open .ensures) (told-opened .enum-told .given .1)
+    no-backward store-limits _ _ _ _ _ _ (opened .before .before .open .ensures) (told-opened .enum-told .given .1)
     (first .before .before .build .ensures) (told-first .before .one .given .1)
     (second .before .before .build2 .ensures) (told-second .before .other .given .1)
     (forward .before .before .join .ensures) (told-forward .before .forward .given .1)
@@ -134,7 +134,7 @@ returns-6 c =
     let first = told-first .before .before .before in
     let told-opened = first .before .before .before .before in
     let opened = told-opened .before .before in
-    both store-limits _ _ _ _ _ (opened .before .before .open .ensures) (told-opened .enum-told .given .1)
+    both store-limits _ _ _ _ _ _ (opened .before .before .open .ensures) (told-opened .enum-told .given .1)
     (first .before .before .build .ensures) (told-first .before .one .given .1)
     (second .before .before .build2 .ensures) (told-second .before .other .given .1)
     (forward .before .before .join .ensures) (told-forward .before .forward .given .1)

@@ -1,0 +1,2 @@
+pub mod ReadTrue
+pub mod RunInOrder
