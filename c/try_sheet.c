@@ -80,7 +80,7 @@ static void fill(uint32_t *store, size_t length)
 
 static void cases_1_to_4(void)
 {
-    uint32_t store[5];
+    uint32_t store[6];
     simplify("1 simplify S3(1) = S1(2)", 97, 34, (sheet_simplified){0, 2, 2, 65, 2});
     simplify("2 simplify S2(1) = 0", 65, 0, (sheet_simplified){0, 0, 0, 0, 0});
     simplify("2 simplify S(1) = S2(1)", 33, 65, (sheet_simplified){0, 0, 0, 0, 0});
@@ -91,24 +91,24 @@ static void cases_1_to_4(void)
     simplify("4 simplify S1024(0) = 1", 32768, 1, (sheet_simplified){35, 0, 0, 0, 0});
     simplify("a negative gap, S2(2) = 1", 66, 1, (sheet_simplified){0, 2, 66, 1, -2});
     fill(store, LENGTH(store));
-    answer("4 open 1 = S1024(0)", sheet_open(1, WORDS(1, 32768), store, LENGTH(store)), 14, 0);
-    words(store, WORDS(7, 7, 7, 7, 7));
-    answer("4 open 1 = S1023(0)", sheet_open(1, WORDS(1, 32736), store, LENGTH(store)), 0, 0);
-    words(store, WORDS(1, 1, 0, 1, 32736));
+    answer("4 open 1 = S1024(0)", sheet_open(1, 0, WORDS(1, 32768), store, LENGTH(store)), 14, 0);
+    words(store, WORDS(7, 7, 7, 7, 7, 7));
+    answer("4 open 1 = S1023(0)", sheet_open(1, 0, WORDS(1, 32736), store, LENGTH(store)), 0, 0);
+    words(store, WORDS(1, 1, 0, 0, 1, 32736));
 }
 
 /* No fields and no questions: the list, the sheet and the example have no elements, and their pointer is NULL. */
 static void case_5(void)
 {
-    uint32_t store[3] = {9, 9, 9};
-    answer("5 open 2 words", sheet_open(0, NULL, 0, store, 2), 21, 0);
-    words(store, WORDS(9, 9, 9));
-    answer("5 open 3 words", sheet_open(0, NULL, 0, store, LENGTH(store)), 0, 0);
-    words(store, WORDS(0, 0, 0));
+    uint32_t store[4] = {9, 9, 9, 9};
+    answer("5 open 3 words", sheet_open(0, 0, NULL, 0, store, 3), 21, 0);
+    words(store, WORDS(9, 9, 9, 9));
+    answer("5 open 4 words", sheet_open(0, 0, NULL, 0, store, LENGTH(store)), 0, 0);
+    words(store, WORDS(0, 0, 0, 0));
     answer("5 build always", sheet_build(store, LENGTH(store), WORDS(1, 0, 0, 0)), 0, 1);
     answer("5 example", sheet_example(store, LENGTH(store), 1, NULL, 0), 0, 0);
     answer("5 read", sheet_read(store, LENGTH(store), 1, NULL, 0), 0, 1);
-    words(store, WORDS(0, 0, 0));
+    words(store, WORDS(0, 0, 0, 0));
 }
 
 /* The handles of case 6's store put together again; there is no handle 6, and no room for the negation of 5. */
@@ -121,45 +121,45 @@ static void on_case_6(uint32_t *store, size_t length)
     answer("6 choose 0, 5, 2", sheet_choose(store, length, 0, 5, 2), 0, 2);
     answer("6 negate 1", sheet_negate(store, length, 1), 0, 0);
     answer("6 negate 5", sheet_negate(store, length, 5), 51, 0);
-    words(store, WORDS(3, 3, 4, 2, 1, 3, 1, 3, 2, 2, 1, 0, 3, 1, 0, 2, 0, 3, 1, 2, 4));
+    words(store, WORDS(3, 3, 4, 0, 2, 1, 3, 1, 3, 2, 2, 1, 0, 3, 1, 0, 2, 0, 3, 1, 2, 4));
 }
 
 static void cases_6_to_8(void)
 {
-    uint32_t store[21];
+    uint32_t store[22];
     fill(store, LENGTH(store));
-    answer("6 open 18 words", sheet_open(3, WORDS(2, 1, 3, 1, 3, 2), store, 18), 0, 0);
-    answer("6 build 3 = 2 in 18 words", sheet_build(store, 18, WORDS(2, 3, 2, 0)), 51, 0);
-    words(store, WORDS(3, 3, 0, 2, 1, 3, 1, 3, 2, 0, 0, 0, 0, 0, 0, 0, 0, 0, 7, 7, 7));
-    answer("6 open 21 words", sheet_open(3, WORDS(2, 1, 3, 1, 3, 2), store, LENGTH(store)), 0, 0);
+    answer("6 open 19 words", sheet_open(3, 0, WORDS(2, 1, 3, 1, 3, 2), store, 19), 0, 0);
+    answer("6 build 3 = 2 in 19 words", sheet_build(store, 19, WORDS(2, 3, 2, 0)), 51, 0);
+    words(store, WORDS(3, 3, 0, 0, 2, 1, 3, 1, 3, 2, 0, 0, 0, 0, 0, 0, 0, 0, 0, 7, 7, 7));
+    answer("6 open 22 words", sheet_open(3, 0, WORDS(2, 1, 3, 1, 3, 2), store, LENGTH(store)), 0, 0);
     answer("6 build 3 = 2", sheet_build(store, LENGTH(store), WORDS(2, 3, 2, 0)), 0, 5);
-    words(store, WORDS(3, 3, 4, 2, 1, 3, 1, 3, 2, 2, 1, 0, 3, 1, 0, 2, 0, 3, 1, 2, 4));
+    words(store, WORDS(3, 3, 4, 0, 2, 1, 3, 1, 3, 2, 2, 1, 0, 3, 1, 0, 2, 0, 3, 1, 2, 4));
     answer("7 build 3 = 1", sheet_build(store, LENGTH(store), WORDS(2, 3, 1, 0)), 0, 2);
-    words(store, WORDS(3, 3, 4, 2, 1, 3, 1, 3, 2, 2, 1, 0, 3, 1, 0, 2, 0, 3, 1, 2, 4));
+    words(store, WORDS(3, 3, 4, 0, 2, 1, 3, 1, 3, 2, 2, 1, 0, 3, 1, 0, 2, 0, 3, 1, 2, 4));
     answer("8 build 2 = 1 and 3 = 2 and not 3 = 1",
            sheet_build(store, LENGTH(store), WORDS(2, 2, 1, 0, 2, 3, 2, 0, 4, 0, 1, 0, 2, 3, 1, 0, 3, 3, 0, 0, 4, 2, 4, 0)), 0, 0);
-    words(store, WORDS(3, 3, 4, 2, 1, 3, 1, 3, 2, 2, 1, 0, 3, 1, 0, 2, 0, 3, 1, 2, 4));
+    words(store, WORDS(3, 3, 4, 0, 2, 1, 3, 1, 3, 2, 2, 1, 0, 3, 1, 0, 2, 0, 3, 1, 2, 4));
     on_case_6(store, LENGTH(store));
 }
 
 static void case_9(void)
 {
-    uint32_t store[12];
-    answer("9 open", sheet_open(3, WORDS(34, 1, 3, 33, 3, 66), store, LENGTH(store)), 0, 0);
+    uint32_t store[13];
+    answer("9 open", sheet_open(3, 0, WORDS(34, 1, 3, 33, 3, 66), store, LENGTH(store)), 0, 0);
     answer("9 build", sheet_build(store, LENGTH(store), WORDS(2, 1, 34, 0, 3, 0, 0, 0, 2, 3, 33, 0, 4, 1, 2, 0, 2, 3, 66, 0, 4, 3, 4, 0)),
            0, 0);
-    words(store, WORDS(3, 3, 0, 34, 1, 3, 33, 3, 66, 0, 0, 0));
+    words(store, WORDS(3, 3, 0, 0, 34, 1, 3, 33, 3, 66, 0, 0, 0));
     answer("9 verdict 0", sheet_verdict(store, LENGTH(store), 0), 0, 0);
 }
 
 /* 000's Example 22: if S2(1) = 2 then S(2) = 3 else if 2 = S2(3) then always else S(2) = 3. */
 static void case_10(void)
 {
-    uint32_t store[21];
+    uint32_t store[22];
     uint16_t sheet[3] = {7, 7, 7};
-    answer("10 open", sheet_open(3, WORDS(2, 65, 3, 34, 67, 2), store, LENGTH(store)), 0, 0);
+    answer("10 open", sheet_open(3, 0, WORDS(2, 65, 3, 34, 67, 2), store, LENGTH(store)), 0, 0);
     answer("10 build", sheet_build(store, LENGTH(store), WORDS(2, 65, 2, 0, 2, 34, 3, 0, 2, 2, 67, 0, 1, 0, 0, 0, 5, 2, 3, 1, 5, 0, 1, 4)), 0, 5);
-    words(store, WORDS(3, 3, 4, 2, 65, 3, 34, 67, 2, 2, 1, 0, 3, 1, 0, 2, 1, 3, 1, 2, 4));
+    words(store, WORDS(3, 3, 4, 0, 2, 65, 3, 34, 67, 2, 2, 1, 0, 3, 1, 0, 2, 1, 3, 1, 2, 4));
     answer("10 verdict", sheet_verdict(store, LENGTH(store), 5), 0, 2);
     answer("10 example", sheet_example(store, LENGTH(store), 5, sheet, LENGTH(sheet)), 0, 0);
     counts(sheet, (const uint16_t[]){0, 0, 1}, LENGTH(sheet));
@@ -179,11 +179,11 @@ static void written_back(const uint32_t *store, size_t length)
 
 static void case_11(void)
 {
-    uint32_t store[16];
+    uint32_t store[17];
     uint16_t sheet[1] = {7};
-    answer("11 open", sheet_open(1, WORDS(1, 0, 1, 32), store, LENGTH(store)), 0, 0);
+    answer("11 open", sheet_open(1, 0, WORDS(1, 0, 1, 32), store, LENGTH(store)), 0, 0);
     answer("11 build neither", sheet_build(store, LENGTH(store), WORDS(2, 1, 0, 0, 3, 0, 0, 0, 2, 1, 32, 0, 3, 2, 0, 0, 4, 1, 3, 0)), 0, 3);
-    words(store, WORDS(1, 2, 2, 1, 0, 1, 32, 2, 0, 1, 1, 0, 2, 0, 0, 0));
+    words(store, WORDS(1, 2, 2, 0, 1, 0, 1, 32, 2, 0, 1, 1, 0, 2, 0, 0, 0));
     answer("11 example 0", sheet_example(store, LENGTH(store), 0, sheet, LENGTH(sheet)), 52, 0);
     counts(sheet, (const uint16_t[]){7}, LENGTH(sheet));
     answer("11 example", sheet_example(store, LENGTH(store), 3, sheet, LENGTH(sheet)), 0, 0);
@@ -195,16 +195,16 @@ static void case_11(void)
     answer("11 read 1 1", sheet_read(store, LENGTH(store), 3, (const uint16_t[]){1, 1}, 2), 23, 0);
     written_back(store, LENGTH(store));
     answer("11 negate 3", sheet_negate(store, LENGTH(store), 3), 51, 0);
-    words(store, WORDS(1, 2, 2, 1, 0, 1, 32, 2, 0, 1, 1, 0, 2, 0, 0, 0));
+    words(store, WORDS(1, 2, 2, 0, 1, 0, 1, 32, 2, 0, 1, 1, 0, 2, 0, 0, 0));
 }
 
 static void case_12(void)
 {
-    uint32_t store[7];
-    answer("12 open", sheet_open(2, WORDS(2, 32, 2, 97), store, LENGTH(store)), 0, 0);
+    uint32_t store[8];
+    answer("12 open", sheet_open(2, 0, WORDS(2, 32, 2, 97), store, LENGTH(store)), 0, 0);
     answer("12 build", sheet_build(store, LENGTH(store), WORDS(2, 2, 32, 0, 2, 2, 97, 0, 4, 0, 1, 0)), 0, 0);
     answer("12 verdict", sheet_verdict(store, LENGTH(store), 0), 0, 0);
-    words(store, WORDS(2, 2, 0, 2, 32, 2, 97));
+    words(store, WORDS(2, 2, 0, 0, 2, 32, 2, 97));
 }
 
 /* Document 02 (viii), up to 1,023 steps: the edge of 255 is none any more, and the largest negative gap. */
@@ -218,14 +218,14 @@ static void steps_simplified(void)
 /* S1023(2) = 1, built turned round, and its negation. */
 static void steps_built(void)
 {
-    uint32_t store[11];
+    uint32_t store[12];
     uint16_t sheet[2];
-    answer("viii open S1023(2) = 1 in 8 words", sheet_open(2, WORDS(32738, 1), store, 8), 0, 0);
-    answer("viii build 1 = S1023(2)", sheet_build(store, 8, WORDS(2, 1, 32738, 0)), 0, 2);
-    words(store, WORDS(2, 1, 1, 32738, 1, 1, 1, 0));
-    answer("viii example", sheet_example(store, 8, 2, sheet, LENGTH(sheet)), 0, 0);
+    answer("viii open S1023(2) = 1 in 9 words", sheet_open(2, 0, WORDS(32738, 1), store, 9), 0, 0);
+    answer("viii build 1 = S1023(2)", sheet_build(store, 9, WORDS(2, 1, 32738, 0)), 0, 2);
+    words(store, WORDS(2, 1, 1, 0, 32738, 1, 1, 1, 0));
+    answer("viii example", sheet_example(store, 9, 2, sheet, LENGTH(sheet)), 0, 0);
     counts(sheet, (const uint16_t[]){1023, 0}, LENGTH(sheet));
-    answer("viii open in 11 words", sheet_open(2, WORDS(32738, 1), store, LENGTH(store)), 0, 0);
+    answer("viii open in 12 words", sheet_open(2, 0, WORDS(32738, 1), store, LENGTH(store)), 0, 0);
     answer("viii build", sheet_build(store, LENGTH(store), WORDS(2, 1, 32738, 0)), 0, 2);
     answer("viii negate", sheet_negate(store, LENGTH(store), 2), 0, 3);
     answer("viii example of not", sheet_example(store, LENGTH(store), 3, sheet, LENGTH(sheet)), 0, 0);
@@ -235,7 +235,7 @@ static void steps_built(void)
 /* Sixteen fields, each 1,023 above the one before: 1 = S1023(0) to 16 = S1023(15). */
 static void steps_added_up(void)
 {
-    uint32_t list[32], rule[33 * 4] = {1, 0, 0, 0}, store[83];
+    uint32_t list[32], rule[33 * 4] = {1, 0, 0, 0}, store[84];
     uint16_t sheet[16], expected[16];
     for (uint32_t field = 1; field <= 16; field++) {
         /* a field's equation, and that it and all before it hold */
@@ -244,7 +244,7 @@ static void steps_added_up(void)
         memcpy(&rule[4 * (2 * field - 1)], rows, sizeof(rows));
         expected[field - 1] = (uint16_t)(1023 * field);
     }
-    answer("viii open 16 fields", sheet_open(16, list, LENGTH(list), store, LENGTH(store)), 0, 0);
+    answer("viii open 16 fields", sheet_open(16, 0, list, LENGTH(list), store, LENGTH(store)), 0, 0);
     answer("viii build all sixteen", sheet_build(store, LENGTH(store), rule, LENGTH(rule)), 0, 17);
     answer("viii example of all sixteen", sheet_example(store, LENGTH(store), 17, sheet, LENGTH(sheet)), 0, 0);
     counts(sheet, expected, LENGTH(sheet));
@@ -253,29 +253,153 @@ static void steps_added_up(void)
 /* Stores that are not opened: with a question of 1,023 steps sound, with one of 1,024 not. */
 static void steps_in_a_store(void)
 {
-    uint32_t store[8] = {1, 1, 0, 1, 32736, 0, 0, 0};
-    answer("viii verdict, 1,023 steps", sheet_verdict(store, 5, 0), 0, 0);
-    answer("viii verdict, 1,024 steps", sheet_verdict(WORDS(1, 1, 0, 1, 32768), 0), 22, 0);
+    uint32_t store[9] = {1, 1, 0, 0, 1, 32736, 0, 0, 0};
+    answer("viii verdict, 1,023 steps", sheet_verdict(store, 6, 0), 0, 0);
+    answer("viii verdict, 1,024 steps", sheet_verdict(WORDS(1, 1, 0, 0, 1, 32768), 0), 22, 0);
     answer("viii build 1 = S1024(0)", sheet_build(store, LENGTH(store), WORDS(2, 1, 32768, 0)), 35, 0);
     answer("viii build S(1) = S1024(0)", sheet_build(store, LENGTH(store), WORDS(2, 33, 32768, 0)), 35, 0);
     answer("viii build 1 = S256(0)", sheet_build(store, LENGTH(store), WORDS(2, 1, 8192, 0)), 36, 0);
-    words(store, WORDS(1, 1, 0, 1, 32736, 0, 0, 0));
+    words(store, WORDS(1, 1, 0, 0, 1, 32736, 0, 0, 0));
     answer("viii build 1 = S1023(0)", sheet_build(store, LENGTH(store), WORDS(2, 1, 32736, 0)), 0, 2);
-    words(store, WORDS(1, 1, 1, 1, 32736, 1, 1, 0));
+    words(store, WORDS(1, 1, 1, 0, 1, 32736, 1, 1, 0));
+}
+
+/* Every operation that takes a store, on words that are not a sound one; beside them no words are lent, by NULL. */
+static void not_sound(const char *which, uint32_t *store, size_t length)
+{
+    printf("%s:\n", which);
+    answer("  build", sheet_build(store, length, NULL, 0), 22, 0);
+    answer("  negate", sheet_negate(store, length, 0), 22, 0);
+    answer("  join", sheet_join(store, length, 0, 1), 22, 0);
+    answer("  choose", sheet_choose(store, length, 0, 1, 2), 22, 0);
+    answer("  verdict", sheet_verdict(store, length, 0), 22, 0);
+    answer("  example", sheet_example(store, length, 0, NULL, 0), 22, 0);
+    answer("  read", sheet_read(store, length, 0, NULL, 0), 22, 0);
+    answer("  write back", sheet_write_back(store, length, 0, NULL, 0), 22, 0);
+}
+
+/* Document 02 (ix). S(3) = 1 and 3 = 2 stand one way round in order 0, by right field, and the other way round in order 1, by left steps. */
+static void orders_opened(void)
+{
+    uint32_t store[8];
+    fill(store, LENGTH(store));
+    answer("ix open S(3) = 1, 3 = 2 in order 1", sheet_open(3, 1, WORDS(35, 1, 3, 2), store, LENGTH(store)), 16, 0);
+    answer("ix open 3 = 2, S(3) = 1 in order 0", sheet_open(3, 0, WORDS(3, 2, 35, 1), store, LENGTH(store)), 16, 0);
+    words(store, WORDS(7, 7, 7, 7, 7, 7, 7, 7));
+    answer("ix open S(3) = 1, 3 = 2 in order 0", sheet_open(3, 0, WORDS(35, 1, 3, 2), store, LENGTH(store)), 0, 0);
+    words(store, WORDS(3, 2, 0, 0, 35, 1, 3, 2));
+    answer("ix open 3 = 2, S(3) = 1 in order 1", sheet_open(3, 1, WORDS(3, 2, 35, 1), store, LENGTH(store)), 0, 0);
+    words(store, WORDS(3, 2, 0, 1, 3, 2, 35, 1));
+    answer("ix open in 7 words", sheet_open(3, 1, WORDS(3, 2, 35, 1), store, 7), 21, 0);
+}
+
+/* S(2) = 1, 3 = S(1), S(3) = 1 and 3 = 2, of which two are exchanged in order 1; and a question twice. Each number counts in its place: the
+   left field before everything, and the right field before the right steps. */
+static void orders_compared(void)
+{
+    uint32_t store[12];
+    answer("ix open four in order 0", sheet_open(3, 0, WORDS(34, 1, 3, 33, 35, 1, 3, 2), store, LENGTH(store)), 0, 0);
+    answer("ix open four in order 1", sheet_open(3, 1, WORDS(34, 1, 3, 33, 3, 2, 35, 1), store, LENGTH(store)), 0, 0);
+    answer("ix open order 0's in order 1", sheet_open(3, 1, WORDS(34, 1, 3, 33, 35, 1, 3, 2), store, LENGTH(store)), 16, 0);
+    answer("ix open order 1's in order 0", sheet_open(3, 0, WORDS(34, 1, 3, 33, 3, 2, 35, 1), store, LENGTH(store)), 16, 0);
+    answer("ix open 3 = 2 twice in order 0", sheet_open(3, 0, WORDS(3, 2, 3, 2), store, LENGTH(store)), 16, 0);
+    answer("ix open 3 = 2 twice in order 1", sheet_open(3, 1, WORDS(3, 2, 3, 2), store, LENGTH(store)), 16, 0);
+    words(store, WORDS(3, 4, 0, 1, 34, 1, 3, 33, 3, 2, 35, 1));
+}
+
+/* First at most 16 fields, then an order, then an even number of words. */
+static void orders_refused(void)
+{
+    uint32_t store[8];
+    fill(store, LENGTH(store));
+    answer("ix open 17 fields, order 2, one word", sheet_open(17, 2, WORDS(1), store, LENGTH(store)), 11, 0);
+    answer("ix open order 2, one word", sheet_open(3, 2, WORDS(1), store, LENGTH(store)), 18, 0);
+    answer("ix open order 1, one word", sheet_open(3, 1, WORDS(1), store, LENGTH(store)), 12, 0);
+    words(store, WORDS(7, 7, 7, 7, 7, 7, 7, 7));
+}
+
+/* Numbers that name no order, for a good list, and in the words of a store that is sound with an order. */
+static void unknown_orders(void)
+{
+    static const uint32_t orders[] = {2, 3, 256, 2147483648, 4294967295};
+    uint32_t store[22] = {3, 3, 4, 0, 2, 1, 3, 1, 3, 2, 2, 1, 0, 3, 1, 0, 2, 0, 3, 1, 2, 4};
+    for (size_t i = 0; i < LENGTH(orders); i++) {
+        printf("ix order %" PRIu32 ":\n", orders[i]);
+        answer("  open", sheet_open(3, orders[i], WORDS(3, 2), store, LENGTH(store)), 18, 0);
+        words(store, WORDS(3, 3, 4, 0, 2, 1, 3, 1, 3, 2, 2, 1, 0, 3, 1, 0, 2, 0, 3, 1, 2, 4));
+        store[3] = orders[i];
+        not_sound("ix case 6's words with it", store, LENGTH(store));
+        store[3] = 0;
+        words(store, WORDS(3, 3, 4, 0, 2, 1, 3, 1, 3, 2, 2, 1, 0, 3, 1, 0, 2, 0, 3, 1, 2, 4));
+    }
+}
+
+/* The verdict and the example of handle 3. */
+static void satisfied(const uint32_t *store, size_t length, const uint16_t *expected)
+{
+    uint16_t sheet[3] = {7, 7, 7};
+    answer("ix verdict", sheet_verdict(store, length, 3), 0, 2);
+    answer("ix example", sheet_example(store, length, 3, sheet, LENGTH(sheet)), 0, 0);
+    counts(sheet, expected, LENGTH(sheet));
+}
+
+/* "3 = 2 and not S(3) = 1", then "3 = 2 and S(3) = 1", in a store for the questions of the list, and with the words expected of each. */
+static void built_in_order(uint32_t order, const uint32_t *list, const uint32_t *first, const uint32_t *second)
+{
+    uint32_t store[14];
+    printf("in order %" PRIu32 ":\n", order);
+    answer("ix open", sheet_open(3, order, list, 4, store, LENGTH(store)), 0, 0);
+    answer("ix build 3 = 2 and not S(3) = 1", sheet_build(store, LENGTH(store), WORDS(2, 3, 2, 0, 2, 35, 1, 0, 3, 1, 0, 0, 4, 0, 2, 0)), 0, 3);
+    words(store, first, LENGTH(store));
+    satisfied(store, LENGTH(store), (const uint16_t[]){0, 0, 0});
+    answer("ix open", sheet_open(3, order, list, 4, store, LENGTH(store)), 0, 0);
+    answer("ix build 3 = 2 and S(3) = 1", sheet_build(store, LENGTH(store), WORDS(2, 3, 2, 0, 2, 35, 1, 0, 4, 0, 1, 0)), 0, 3);
+    words(store, second, LENGTH(store));
+    satisfied(store, LENGTH(store), (const uint16_t[]){1, 0, 0});
+}
+
+static void orders_built(void)
+{
+    built_in_order(0, (const uint32_t[]){35, 1, 3, 2}, (const uint32_t[]){3, 2, 2, 0, 35, 1, 3, 2, 2, 1, 0, 1, 0, 2},
+                   (const uint32_t[]){3, 2, 2, 0, 35, 1, 3, 2, 2, 1, 0, 1, 2, 0});
+    built_in_order(1, (const uint32_t[]){3, 2, 35, 1}, (const uint32_t[]){3, 2, 2, 1, 3, 2, 35, 1, 2, 0, 1, 1, 2, 0},
+                   (const uint32_t[]){3, 2, 2, 1, 3, 2, 35, 1, 2, 1, 0, 1, 2, 0});
+}
+
+/* Case 6's list stands in both orders, so its words are a sound store with either of them. */
+static void case_6_in_order_1(void)
+{
+    uint32_t store[22];
+    answer("ix open case 6 in order 1", sheet_open(3, 1, WORDS(2, 1, 3, 1, 3, 2), store, LENGTH(store)), 0, 0);
+    answer("ix build 3 = 2", sheet_build(store, LENGTH(store), WORDS(2, 3, 2, 0)), 0, 5);
+    words(store, WORDS(3, 3, 4, 1, 2, 1, 3, 1, 3, 2, 2, 1, 0, 3, 1, 0, 2, 0, 3, 1, 2, 4));
+    store[3] = 0;
+    answer("ix verdict with order 0", sheet_verdict(store, LENGTH(store), 5), 0, 2);
+    store[3] = 1;
+    answer("ix verdict with order 1", sheet_verdict(store, LENGTH(store), 5), 0, 2);
+}
+
+/* Stores that are not opened: the list of one order under the number of each; four words, and three. */
+static void orders_in_a_store(void)
+{
+    uint32_t store[8] = {3, 2, 0, 0, 35, 1, 3, 2};
+    answer("ix verdict, 3 2 0 0 35 1 3 2", sheet_verdict(store, LENGTH(store), 0), 0, 0);
+    store[3] = 1;
+    not_sound("ix 3 2 0 1 35 1 3 2", store, LENGTH(store));
+    answer("ix verdict, 3 2 0 1 3 2 35 1", sheet_verdict(WORDS(3, 2, 0, 1, 3, 2, 35, 1), 0), 0, 0);
+    answer("ix verdict, 3 2 0 0 3 2 35 1", sheet_verdict(WORDS(3, 2, 0, 0, 3, 2, 35, 1), 0), 22, 0);
+    memset(store, 0, sizeof(store));
+    not_sound("ix 0 0 0", store, 3);
+    answer("ix verdict, 0 0 0 0", sheet_verdict(store, 4, 0), 0, 0);
+    answer("ix verdict, 0 0 0 1", sheet_verdict(WORDS(0, 0, 0, 1), 0), 0, 0);
+    answer("ix verdict, 0 0 0 2", sheet_verdict(WORDS(0, 0, 0, 2), 0), 22, 0);
 }
 
 /* No words at all, by NULL: no store is so short. */
 static void null_stores(void)
 {
-    answer("null open", sheet_open(0, NULL, 0, NULL, 0), 21, 0);
-    answer("null build", sheet_build(NULL, 0, NULL, 0), 22, 0);
-    answer("null negate", sheet_negate(NULL, 0, 0), 22, 0);
-    answer("null join", sheet_join(NULL, 0, 0, 1), 22, 0);
-    answer("null choose", sheet_choose(NULL, 0, 0, 1, 2), 22, 0);
-    answer("null verdict", sheet_verdict(NULL, 0, 0), 22, 0);
-    answer("null example", sheet_example(NULL, 0, 0, NULL, 0), 22, 0);
-    answer("null read", sheet_read(NULL, 0, 0, NULL, 0), 22, 0);
-    answer("null write back", sheet_write_back(NULL, 0, 0, NULL, 0), 22, 0);
+    answer("null open", sheet_open(0, 0, NULL, 0, NULL, 0), 21, 0);
+    not_sound("null store", NULL, 0);
 }
 
 /* Checks a table, entries of four words by WORDS, and compares the answer. */
@@ -377,13 +501,13 @@ static void largest_table(void)
 /* No words by NULL beside a store that is sound. */
 static void null_slices(void)
 {
-    uint32_t store[5];
-    answer("null list", sheet_open(1, NULL, 0, store, LENGTH(store)), 0, 0);
+    uint32_t store[6];
+    answer("null list", sheet_open(1, 0, NULL, 0, store, LENGTH(store)), 0, 0);
     answer("null rule", sheet_build(store, LENGTH(store), NULL, 0), 31, 0);
     answer("null example of one field", sheet_example(store, LENGTH(store), 1, NULL, 0), 23, 0);
     answer("null sheet of one field", sheet_read(store, LENGTH(store), 1, NULL, 0), 23, 0);
     answer("null rule written back", sheet_write_back(store, LENGTH(store), 0, NULL, 0), 23, 0);
-    words(store, WORDS(1, 0, 0, 0, 0));
+    words(store, WORDS(1, 0, 0, 0, 0, 0));
 }
 
 int main(void)
@@ -399,6 +523,13 @@ int main(void)
     steps_built();
     steps_added_up();
     steps_in_a_store();
+    orders_opened();
+    orders_compared();
+    orders_refused();
+    unknown_orders();
+    orders_built();
+    case_6_in_order_1();
+    orders_in_a_store();
     null_stores();
     null_slices();
     tables_of_any_shape();

@@ -6,9 +6,13 @@
 
    A term word is steps x 32 + field. Field 0 stands for zero, the fields of a sheet are numbered from 1.
 
-   A store is lent words: n (the number of fields), q (the number of questions), used (the number of entries), then q questions of two term
-   words each, left first, then entries of three words: question number (1 to q), yes handle, no handle. Handle 0 is never, 1 is always, and
-   the i-th entry, counted from 0, is handle i + 2.
+   A store is lent words: n (the number of fields), q (the number of questions), used (the number of entries), order (0 or 1), then q questions
+   of two term words each, left first, then entries of three words: question number (1 to q), yes handle, no handle. Handle 0 is never, 1 is
+   always, and the i-th entry, counted from 0, is handle i + 2.
+
+   The questions ascend strictly in the store's order. Order 0 compares left field, right field, left steps, right steps; order 1, that of the
+   older books, compares left field, left steps, right field, right steps; the first that differs decides. A list may ascend in both orders, so
+   the order cannot be told from the list: word 3 alone says it.
 
    A rule is rows of four words: kind, a, b, c. Rows count from 0; the last row is the rule. Kinds:
      0 never; 1 always; 2 the equation of the term words a and b; 3 not row a; 4 rows a and b; 5 if row a then row b else row c.
@@ -30,17 +34,20 @@
      13  the list has more than 20 questions            33  the rule has more than 256 rows
      14  a field is above n, or steps above 1,023       34  unknown kind, nonzero unused column, reference not lower
      15  not a simplified question                      35  a field is above n, or steps above 1,023
-     16  not strictly above the question before         36  an equation neither always nor never nor on the list
-     21  the store is shorter than 3 + 2q words         41  a handle is at or above used + 2
-     22  the store is not sound                         51  used plus the new entries exceeds the store's room
-     23  the slice has the wrong length                 52  nothing satisfies the handle
-                                                        53  writing back would take more than 256 rows
+     16  not above the question before, by the order    36  an equation neither always nor never nor on the list
+     18  the order is neither 0 nor 1                   41  a handle is at or above used + 2
+     21  the store is shorter than 4 + 2q words         51  used plus the new entries exceeds the store's room
+     22  the store is not sound                         52  nothing satisfies the handle
+     23  the slice has the wrong length                 53  writing back would take more than 256 rows
      81  a table's words are no multiple of four, it has more than 4,096 entries, or the root is at or above entries + 2
      82  a field of a table is above 16, steps above 4,095, or an equation not simplified
      83  a handle of a table is not lower than its entry's own
      84  two entries of a table are equal in all four words
      85  an entry of a table is not reachable from the root
      86  one of the rules of document 000's Definition 28 applies
+
+   22 is given, among others, for fewer than 4 words, for a word 3 that is neither 0 nor 1, and for a list that does not ascend in the order
+   that word 3 names.
 
    What C must keep. The functions are proved for whatever words are lent: no content of a store, list, rule, sheet or table, no handle and no
    length makes them read or write outside what was lent. Nothing proves what stands on C's side of a call, so the caller sees to it that
@@ -77,10 +84,10 @@ typedef struct {
    Refusals: 35, with n taken as 16. */
 sheet_simplified sheet_simplify(uint32_t a, uint32_t b);
 
-/* Opens a store for n fields and a list of questions, two term words each: writes n, the number of questions, no entries, the list, and
-   zeros in all the rest. The result is 0.
-   Refusals: 11, 12, 13, then question by question 14, 15, 16, then 21. */
-sheet_answer sheet_open(uint32_t n, const uint32_t *list, size_t list_len, uint32_t *store, size_t store_len);
+/* Opens a store for n fields and a list of questions in an order, two term words each: writes n, the number of questions, no entries, the
+   order, the list, and zeros in all the rest. The result is 0.
+   Refusals: 11, 18, 12, 13, then question by question 14, 15, 16, then 21. */
+sheet_answer sheet_open(uint32_t n, uint32_t order, const uint32_t *list, size_t list_len, uint32_t *store, size_t store_len);
 
 /* Adds the finished diagram of a rule. The result is its handle.
    Refusals: 22, 31, 32, 33, then row by row 34, 35, 36, then 51. */
@@ -117,10 +124,10 @@ sheet_answer sheet_write_back(const uint32_t *store, size_t store_len, uint32_t 
 /* Checks that a table is one diagram, from its root down, in the normal form of document 000's Definition 28. Nothing is written. The result
    is the root's verdict: 0 for the root 0, never; 1 for the root 1, always; else 2, sometimes, as every path of an accepted diagram is
    followed by some choice of counts, natural numbers of any size.
-   Equations are compared by left field, right field, left steps, right steps. One of Definition 28's rules applies at an entry if its yes
-   and its no handle are the same (rule 3); if one of its parts begins with the same equation (4 and 5) or with one below it (6 and 7); or if
-   an equation anywhere in its yes part, reached there by yes or by no, names the left field of the entry's equation on either side and is
-   above that equation (8').
+   Equations are compared by left field, right field, left steps, right steps, whatever order stores have. One of Definition 28's rules applies
+   at an entry if its yes and its no handle are the same (rule 3); if one of its parts begins with the same equation (4 and 5) or with one
+   below it (6 and 7); or if an equation anywhere in its yes part, reached there by yes or by no, names the left field of the entry's equation
+   on either side and is above that equation (8').
    Refusals: 81, 82, 83, 84, 85, 86, each tested over the whole table before the next. With a leaf as root any entry is 85. */
 sheet_answer sheet_check_normal_form(const uint32_t *table, size_t table_len, uint32_t root);
 

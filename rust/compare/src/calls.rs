@@ -5,7 +5,7 @@ use independent::{Answer, Operations};
 /// A call on a store, or on a table of diagrams, which needs none. Slices beside the store are lent as they stand here.
 #[derive(Clone, Debug)]
 pub enum Call {
-    Open { n: u32, list: Vec<u32> },
+    Open { n: u32, order: u32, list: Vec<u32> },
     Build { rule: Vec<u32> },
     Negate(u32),
     Join(u32, u32),
@@ -92,7 +92,7 @@ impl Call {
         let mut words = Lent::new(words, 0x5A5A_5A5A);
         let mut sheet = Lent::new(sheet, 0xA55A);
         let answer = match *self {
-            Call::Open { n, .. } => operations.open(n, words.slice(), store.slice()),
+            Call::Open { n, order, .. } => operations.open(n, order, words.slice(), store.slice()),
             Call::Build { .. } => operations.build(store.slice(), words.slice()),
             Call::Negate(a) => operations.negate(store.slice(), a),
             Call::Join(a, b) => operations.join(store.slice(), a, b),

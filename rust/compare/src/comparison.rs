@@ -16,6 +16,30 @@ const MOST_PATHS: u64 = 200;
 /// All sheets are tried on the paths of a diagram if they aren't more.
 const MOST_SHEETS: u64 = 1_000;
 
+/// What the inputs have to bring about at least once, besides every number of every operation.
+pub mod occasion {
+    pub const LIST_IN_ONE_ORDER: &str = "a list that opens in one order and is 16 in the other";
+    pub const LIST_IN_BOTH_ORDERS: &str = "a list that opens in both orders";
+    pub const FIELDS_BEFORE_ORDER: &str = "11 though 18 and 12 apply as well";
+    pub const ORDER_BEFORE_LIST: &str = "18 though 12 applies as well";
+    pub const UNKNOWN_ORDER_NAMED: &str = "22 for an unknown order in word 3";
+    pub const OTHER_ORDER_NAMED: &str = "22 for the other order in word 3";
+    pub const CALLS_IN_ORDER_0: &str = "a list of calls on a store whose list is in order 0 only";
+    pub const CALLS_IN_ORDER_1: &str = "a list of calls on a store whose list is in order 1 only";
+
+    /// Every occasion.
+    pub const ALL: [&str; 8] = [
+        LIST_IN_ONE_ORDER,
+        LIST_IN_BOTH_ORDERS,
+        FIELDS_BEFORE_ORDER,
+        ORDER_BEFORE_LIST,
+        UNKNOWN_ORDER_NAMED,
+        OTHER_ORDER_NAMED,
+        CALLS_IN_ORDER_0,
+        CALLS_IN_ORDER_1,
+    ];
+}
+
 /// What was called, compared and met so far.
 pub struct Comparison {
     by_bounds: Plain,
@@ -27,6 +51,8 @@ pub struct Comparison {
     compared_by_trees: u64,
     /// Other facts that were tested, by name.
     tested: BTreeMap<&'static str, u64>,
+    /// How often each [`occasion`] was met.
+    occasions: BTreeMap<&'static str, u64>,
     differing: u64,
 }
 
@@ -40,6 +66,7 @@ impl Default for Comparison {
             compared_by_counting: 0,
             compared_by_trees: 0,
             tested: BTreeMap::new(),
+            occasions: BTreeMap::new(),
             differing: 0,
         }
     }
@@ -122,6 +149,11 @@ impl Comparison {
         }
     }
 
+    /// Notes that one of the occasions was met.
+    pub fn meet(&mut self, occasion: &'static str) {
+        *self.occasions.entry(occasion).or_default() += 1;
+    }
+
     fn count(&mut self, operation: &'static str, number: u32) {
         *self.numbers.entry(operation).or_default().entry(number).or_default() += 1;
     }
@@ -133,8 +165,18 @@ impl Comparison {
         }
     }
 
-    /// Prints what was compared. True if nothing differs and each operation gave each number that it can give, and no other.
+    /// Prints what was compared. True if nothing differs, each operation gave each number that it can give and no other, and each occasion
+    /// was met.
     pub fn report(&self) -> bool {
+        self.print_compared();
+        let unmet = self.print_numbers() + self.print_occasions();
+        self.print_refusals();
+        println!("not met: {unmet}");
+        println!("differing: {}", self.differing);
+        self.differing == 0 && unmet == 0
+    }
+
+    fn print_compared(&self) {
         let compared: u64 = self.numbers.values().flat_map(BTreeMap::values).sum();
         println!("calls compared word for word: {compared}");
         println!("  all of them with the fast implementation");
@@ -145,6 +187,10 @@ impl Comparison {
         for (name, times) in &self.tested {
             println!("  {name}: {times}");
         }
+    }
+
+    /// Prints the numbers that each operation gave. Gives how many are missing, or can't be.
+    fn print_numbers(&self) -> usize {
         println!("how often each operation gave each number (0 is acceptance):");
         for (operation, numbers) in &self.numbers {
             let line: Vec<String> = numbers.iter().map(|(number, times)| format!("{number}: {times}")).collect();
@@ -162,22 +208,33 @@ impl Comparison {
                 unmet += 1;
             }
         }
+        unmet
+    }
+
+    /// Prints how often each occasion was met. Gives how many were not.
+    fn print_occasions(&self) -> usize {
+        println!("what had to be met, and how often it was:");
+        for occasion in occasion::ALL {
+            println!("  {occasion}: {}", self.occasions.get(occasion).unwrap_or(&0));
+        }
+        let unmet = occasion::ALL.into_iter().filter(|occasion| !self.occasions.contains_key(occasion));
+        unmet.inspect(|occasion| println!("NOT MET: {occasion}")).count()
+    }
+
+    fn print_refusals(&self) {
         println!("refusal numbers, and how often each was met:");
         for numbers in refusal::ALL.chunks(10) {
             let times = |number: &u32| self.numbers.values().filter_map(|met| met.get(number)).sum::<u64>();
             let line: Vec<String> = numbers.iter().map(|number| format!("{number}: {}", times(number))).collect();
             println!("  {}", line.join("  "));
         }
-        println!("not met: {unmet}");
-        println!("differing: {}", self.differing);
-        self.differing == 0 && unmet == 0
     }
 }
 
 /// The numbers that each operation can give, by documents 01 and 02.
 const NUMBERS: [(&str, &[u32]); 11] = [
     ("simplify", &[0, 35]),
-    ("open", &[0, 11, 12, 13, 14, 15, 16, 21]),
+    ("open", &[0, 11, 12, 13, 14, 15, 16, 18, 21]),
     ("build", &[0, 22, 31, 32, 33, 34, 35, 36, 51]),
     ("negate", &[0, 22, 41, 51]),
     ("join", &[0, 22, 41, 51]),
@@ -196,7 +253,7 @@ pub fn questions_of(list: &[u32]) -> Vec<Question> {
 
 /// The fields and questions of a store, if its heading leaves a list to look at.
 fn survey_of(store: &[u32]) -> Option<(u32, Vec<Question>)> {
-    let [n, q, _, rest @ ..] = store else { return None };
+    let [n, q, _, _, rest @ ..] = store else { return None };
     if *n > MOST_FIELDS || *q > MOST_QUESTIONS as u32 {
         return None;
     }

@@ -1,17 +1,42 @@
 //! Lists, rules, sheets and stores to try: good ones, and ones with a fault.
 
 use std::collections::HashSet;
+use std::ops::Range;
 
-use independent::{Term, FIRST_ENTRY, HEADING, MOST_FIELDS, MOST_QUESTIONS, MOST_ROWS, MOST_STEPS};
+use independent::{Term, FIELDS_FIRST, FIRST_ENTRY, HEADING, ORDERS};
+use independent::{MOST_FIELDS, MOST_QUESTIONS, MOST_ROWS, MOST_STEPS};
 
+use crate::calls::Call;
 use crate::random::Random;
 
-/// The number of fields and the list words of a store to be opened.
+/// The number of fields, the order and the list words of a store to be opened.
 #[derive(Clone, Debug)]
 pub struct Survey {
     pub n: u32,
+    pub order: u32,
     pub list: Vec<u32>,
 }
+
+impl Survey {
+    /// The call that opens a store for it.
+    pub fn open(&self) -> Call {
+        Call::Open { n: self.n, order: self.order, list: self.list.clone() }
+    }
+
+    /// The same questions, listed in an order.
+    pub fn in_order(&self, order: u32) -> Survey {
+        let questions = self.list.chunks(2).map(|pair| [pair[0], pair[1]]).collect();
+        Survey { n: self.n, order, list: in_order(order, questions) }
+    }
+
+    /// Whether the list, which is in some order, is in no other.
+    pub fn is_in_one_order(&self) -> bool {
+        ORDERS.into_iter().any(|order| self.in_order(order).list != self.list)
+    }
+}
+
+/// Numbers that name no order. Some of them are 0 or 1 if bits are left out.
+const UNKNOWN_ORDERS: [u32; 5] = [2, 3, 256, 1 << 31, u32::MAX];
 
 /// How large the fields, gaps and lists of a random survey get.
 #[derive(Clone, Copy)]
@@ -65,15 +90,34 @@ pub fn question(random: &mut Random, n: u32, gaps: Gaps) -> [u32; 2] {
     [Term { field: left, steps: left_steps }.word(), Term { field: right, steps: right_steps }.word()]
 }
 
-/// The numbers that the order of questions compares.
-pub fn rank(pair: &[u32; 2]) -> (u32, u32, u32, u32) {
-    let [left, right] = pair.map(Term::of_word);
-    (left.field, right.field, left.steps, right.steps)
+/// Two questions that the orders list differently: the left field is the same, and the one with more steps there has the smaller right
+/// field. There are at least three fields.
+fn told_apart(random: &mut Random, n: u32, gaps: Gaps) -> [[u32; 2]; 2] {
+    let left = random.between(3, n);
+    let right = random.between(2, left - 1);
+    let more = random.between(1, gaps.most_strides);
+    let fewer = random.below(more);
+    let right_steps = if fewer == 0 { gaps.steps(random) } else { 0 };
+    let term = |field: u32, steps: u32| Term { field, steps }.word();
+    [
+        [term(left, gaps.stride * more), term(random.between(1, right - 1), 0)],
+        [term(left, gaps.stride * fewer), term(right, right_steps)],
+    ]
 }
 
-/// The list words of questions in their order, doubles left out.
-pub fn in_order(mut questions: Vec<[u32; 2]>) -> Vec<u32> {
-    questions.sort_by_key(rank);
+/// The numbers that an order of questions compares, the first that differs deciding.
+pub fn rank(order: u32, pair: &[u32; 2]) -> [u32; 4] {
+    let [left, right] = pair.map(Term::of_word);
+    if order == FIELDS_FIRST {
+        [left.field, right.field, left.steps, right.steps]
+    } else {
+        [left.field, left.steps, right.field, right.steps]
+    }
+}
+
+/// The list words of questions in an order, doubles left out.
+pub fn in_order(order: u32, mut questions: Vec<[u32; 2]>) -> Vec<u32> {
+    questions.sort_by_key(|pair| rank(order, pair));
     questions.dedup();
     questions.concat()
 }
@@ -82,8 +126,13 @@ pub fn in_order(mut questions: Vec<[u32; 2]>) -> Vec<u32> {
 pub fn survey(random: &mut Random, size: Size) -> Survey {
     let n = random.between(size.fields.0, size.fields.1);
     let wanted = if n == 0 { 0 } else { random.below(size.most_questions + 1) };
-    let list = in_order((0..wanted).map(|_| question(random, n, size.gaps)).collect());
-    Survey { n, list }
+    let mut questions: Vec<[u32; 2]> = (0..wanted).map(|_| question(random, n, size.gaps)).collect();
+    // By chance alone few lists are in one order only.
+    if n > 2 && questions.len() > 1 && random.one_in(3) {
+        questions.splice(..2, told_apart(random, n, size.gaps));
+    }
+    let order = *random.pick(&ORDERS);
+    Survey { n, order, list: in_order(order, questions) }
 }
 
 /// A word of a small field with steps around 255 or around their limit.
@@ -95,35 +144,69 @@ fn edge_word(random: &mut Random) -> u32 {
 /// A survey that opening mostly refuses.
 pub fn faulty_survey(random: &mut Random) -> Survey {
     let size = *random.pick(&SIZES);
-    let Survey { mut n, mut list } = survey(random, size);
-    match random.below(9) {
+    let mut survey = survey(random, size);
+    match random.below(14) {
         // Too many fields, or too few for the list.
-        0 => n = *random.pick(&[17, 18, 31, 32, u32::MAX]),
-        1 => n = random.below(n + 1),
+        0 => survey.n = too_many_fields(random),
+        1 => survey.n = random.below(survey.n + 1),
+        // No such order, or the other one.
+        2 => survey.order = *random.pick(&UNKNOWN_ORDERS),
+        3 => survey.order = 1 - survey.order,
         // An odd number of words.
-        2 => list.push(random.word() % 600),
+        4 => survey.list.push(random.word() % 600),
         // Twenty questions or more, all good.
-        3 => {
-            let pairs = *random.pick(&[20, 21, 22, 40]);
-            n = MOST_FIELDS;
-            list = in_order((0..4 * pairs).map(|_| question(random, n, Gaps::up_to(MOST_STEPS))).collect());
-            list.truncate(2 * pairs as usize);
+        5 => (survey.n, survey.list) = (MOST_FIELDS, many_questions(random, survey.order)),
+        // Several of these, of which the first that opening looks for counts.
+        6 | 7 => {
+            if random.one_in(4) {
+                survey.list = many_questions(random, survey.order);
+            }
+            if random.one_in(2) {
+                survey.n = too_many_fields(random);
+            }
+            if random.one_in(2) {
+                survey.order = *random.pick(&UNKNOWN_ORDERS);
+            }
+            if random.one_in(2) {
+                survey.list.push(random.word() % 600);
+            }
         }
+        _ => damage_list(random, &mut survey.list),
+    }
+    survey
+}
+
+fn too_many_fields(random: &mut Random) -> u32 {
+    *random.pick(&[17, 18, 31, 32, u32::MAX])
+}
+
+/// The words of a good list, except that it mostly has more than 20 questions.
+fn many_questions(random: &mut Random, order: u32) -> Vec<u32> {
+    let pairs = *random.pick(&[20, 21, 22, 40]);
+    let questions = (0..4 * pairs).map(|_| question(random, MOST_FIELDS, Gaps::up_to(MOST_STEPS))).collect();
+    let mut list = in_order(order, questions);
+    list.truncate(2 * pairs);
+    list
+}
+
+/// Puts a fault into the words of a good list.
+fn damage_list(random: &mut Random, list: &mut Vec<u32>) {
+    match random.below(5) {
         // A word at or beyond the limits of fields and steps.
-        4 if !list.is_empty() => {
+        0 if !list.is_empty() => {
             let at = random.place(list.len());
             let longer = [MOST_STEPS, MOST_STEPS + 1].map(|steps| list[at] + 32 * steps);
             let word = edge_word(random);
             list[at] = *random.pick(&[word, word, 31, 17, 16, u32::MAX, longer[0], longer[1]]);
         }
         // Two questions exchanged.
-        5 if list.len() > 3 => {
+        1 if list.len() > 3 => {
             let at = 2 * random.place(list.len() / 2 - 1);
             list.swap(at, at + 2);
             list.swap(at + 1, at + 3);
         }
         // A question turned round, written twice, with common steps, or with two equal sides.
-        6 if !list.is_empty() => {
+        2 if !list.is_empty() => {
             let at = 2 * random.place(list.len() / 2);
             let pair = [list[at], list[at + 1]];
             match random.below(4) {
@@ -134,14 +217,13 @@ pub fn faulty_survey(random: &mut Random) -> Survey {
             }
         }
         // One bit flipped.
-        7 if !list.is_empty() => {
+        3 if !list.is_empty() => {
             let at = random.place(list.len());
             list[at] ^= 1 << random.below(16);
         }
         // Any small words.
-        _ => list = (0..random.below(50)).map(|_| random.word() % 70).collect(),
+        _ => *list = (0..random.below(50)).map(|_| random.word() % 70).collect(),
     }
-    Survey { n, list }
 }
 
 /// A pair of term words that simplifies to a question of the list, or to always or never.
@@ -378,7 +460,7 @@ pub fn sound_entries(random: &mut Random, q: u32, most: usize, without: Option<[
 
 /// The words of a store with the given entries and no unused words.
 pub fn store_of(survey: &Survey, entries: &[[u32; 3]]) -> Vec<u32> {
-    let mut store = vec![survey.n, (survey.list.len() / 2) as u32, entries.len() as u32];
+    let mut store = vec![survey.n, (survey.list.len() / 2) as u32, entries.len() as u32, survey.order];
     store.extend(&survey.list);
     store.extend(entries.as_flattened());
     store
@@ -399,6 +481,8 @@ pub enum Fault {
     Fields,
     Questions,
     Used,
+    UnknownOrder,
+    OtherOrder,
     CutInList,
     CutInEntries,
     ListBit,
@@ -415,10 +499,12 @@ pub enum Fault {
     AnyBits,
 }
 
-pub const FAULTS: [Fault; 17] = [
+pub const FAULTS: [Fault; 19] = [
     Fault::Fields,
     Fault::Questions,
     Fault::Used,
+    Fault::UnknownOrder,
+    Fault::OtherOrder,
     Fault::CutInList,
     Fault::CutInEntries,
     Fault::ListBit,
@@ -435,58 +521,29 @@ pub const FAULTS: [Fault; 17] = [
     Fault::AnyBits,
 ];
 
-/// Puts a fault into a sound store.
+/// Where the list and the used entries of a sound store stand.
+fn parts(store: &[u32]) -> (Range<usize>, Range<usize>) {
+    let list = HEADING..HEADING + 2 * store[1] as usize;
+    let entries = list.end..list.end + 3 * store[2] as usize;
+    (list, entries)
+}
+
+/// Puts a fault into a sound store; if it doesn't have what that takes, flips some bits.
 pub fn damage(random: &mut Random, store: &mut Vec<u32>, fault: Fault) {
-    let (n, q, used) = (store[0], store[1], store[2]);
-    let list = HEADING..HEADING + 2 * q as usize;
-    let entries = list.end..list.end + 3 * used as usize;
-    let list_word = |random: &mut Random| list.start + random.place(list.len());
-    let entry = |random: &mut Random| entries.start + 3 * random.place(used as usize);
+    let (list, entries) = parts(store);
+    let (q, used) = (store[1], store[2]);
     match fault {
-        // Some of these numbers, times three or plus a few, are small again in 32 bits.
-        Fault::Fields => store[0] = *random.pick(&[17, 31, u32::MAX, n / 2]),
-        Fault::Questions => store[1] = *random.pick(&[21, q + 1, q / 2, u32::MAX, 1 << 31, (1 << 31) + 1]),
-        Fault::Used => store[2] = *random.pick(&[used + 1, used / 2, 4097, u32::MAX, 1_431_655_766, 2_863_311_531]),
+        Fault::Fields | Fault::Questions | Fault::Used | Fault::UnknownOrder | Fault::OtherOrder => {
+            damage_heading(random, store, fault)
+        }
         Fault::CutInList => store.truncate(random.place(list.end + 1)),
         Fault::CutInEntries => store.truncate(entries.end - random.between(1, 3) as usize),
-        Fault::ListBit if q > 0 => store[list_word(random)] ^= 1 << random.below(16),
-        Fault::ListTerm if q > 0 => {
-            store[list_word(random)] = *random.pick(&[32 * (MOST_STEPS + 1), 31, n + 1, u32::MAX])
+        Fault::ListBit | Fault::ListTerm | Fault::NotSimplified if q > 0 => damage_questions(random, store, fault),
+        Fault::NotAscending if q > 1 => damage_questions(random, store, fault),
+        Fault::QuestionNumber | Fault::EqualHandles | Fault::HandleNotLower if used > 0 => {
+            damage_entries(random, store, fault)
         }
-        Fault::NotSimplified if q > 0 => {
-            let at = list.start + 2 * random.place(q as usize);
-            store.swap(at, at + 1);
-        }
-        Fault::NotAscending if q > 1 => {
-            let at = list.start + 2 * random.place(q as usize - 1);
-            if random.one_in(2) {
-                store.swap(at, at + 2);
-                store.swap(at + 1, at + 3);
-            } else {
-                store.copy_within(at..at + 2, at + 2);
-            }
-        }
-        Fault::QuestionNumber if used > 0 => store[entry(random)] = *random.pick(&[0, q + 1, u32::MAX]),
-        Fault::EqualHandles if used > 0 => {
-            let at = entry(random);
-            store[at + 2] = store[at + 1];
-        }
-        Fault::HandleNotLower if used > 0 => {
-            let at = entry(random);
-            let own = ((at - entries.start) / 3) as u32 + FIRST_ENTRY;
-            store[at + random.between(1, 2) as usize] = *random.pick(&[own, own + 1, u32::MAX, u32::MAX - 1]);
-        }
-        Fault::QuestionNotLater if used > 1 => {
-            // The last entry names another one, and asks the same question or a later one.
-            let (named, last) = (random.below(used - 1), entries.end - 3);
-            let question = store[entries.start + 3 * named as usize];
-            store[last] = random.between(question, q);
-            store[last + random.between(1, 2) as usize] = named + FIRST_ENTRY;
-        }
-        Fault::EqualEntries if used > 1 => {
-            let at = entry(random);
-            store.copy_within(at..at + 3, entries.end - 3);
-        }
+        Fault::QuestionNotLater | Fault::EqualEntries if used > 1 => damage_entries(random, store, fault),
         Fault::UnusedWord if entries.end < store.len() => {
             let at = entries.end + random.place(store.len() - entries.end);
             store[at] = 1 << random.below(32);
@@ -502,5 +559,65 @@ pub fn damage(random: &mut Random, store: &mut Vec<u32>, fault: Fault) {
                 store[at] ^= 1 << random.below(bits);
             }
         }
+    }
+}
+
+/// Changes a word of the heading. Some of the numbers, times three or plus a few, are small again in 32 bits.
+fn damage_heading(random: &mut Random, store: &mut [u32], fault: Fault) {
+    let (n, q, used, order) = (store[0], store[1], store[2], store[3]);
+    match fault {
+        Fault::Fields => store[0] = *random.pick(&[17, 31, u32::MAX, n / 2]),
+        Fault::Questions => store[1] = *random.pick(&[21, q + 1, q / 2, u32::MAX, 1 << 31, (1 << 31) + 1]),
+        Fault::Used => store[2] = *random.pick(&[used + 1, used / 2, 4097, u32::MAX, 1_431_655_766, 2_863_311_531]),
+        Fault::UnknownOrder => store[3] = *random.pick(&UNKNOWN_ORDERS),
+        _ => store[3] = 1 - order,
+    }
+}
+
+/// Changes the list, which has questions; two at least if they are to be out of order.
+fn damage_questions(random: &mut Random, store: &mut [u32], fault: Fault) {
+    let (list, _) = parts(store);
+    let n = store[0];
+    let at = list.start + random.place(list.len());
+    match fault {
+        Fault::ListBit => store[at] ^= 1 << random.below(16),
+        Fault::ListTerm => store[at] = *random.pick(&[32 * (MOST_STEPS + 1), 31, n + 1, u32::MAX]),
+        Fault::NotSimplified => {
+            let at = list.start + 2 * random.place(list.len() / 2);
+            store.swap(at, at + 1);
+        }
+        _ => {
+            let at = list.start + 2 * random.place(list.len() / 2 - 1);
+            if random.one_in(2) {
+                store.swap(at, at + 2);
+                store.swap(at + 1, at + 3);
+            } else {
+                store.copy_within(at..at + 2, at + 2);
+            }
+        }
+    }
+}
+
+/// Changes an entry, of which there are some; two at least if one is to be compared with another.
+fn damage_entries(random: &mut Random, store: &mut [u32], fault: Fault) {
+    let (_, entries) = parts(store);
+    let (q, used) = (store[1], store[2]);
+    let place = random.below(used);
+    let at = entries.start + 3 * place as usize;
+    match fault {
+        Fault::QuestionNumber => store[at] = *random.pick(&[0, q + 1, u32::MAX]),
+        Fault::EqualHandles => store[at + 2] = store[at + 1],
+        Fault::HandleNotLower => {
+            let own = place + FIRST_ENTRY;
+            store[at + random.between(1, 2) as usize] = *random.pick(&[own, own + 1, u32::MAX, u32::MAX - 1]);
+        }
+        Fault::QuestionNotLater => {
+            // The last entry names another one, and asks the same question or a later one.
+            let (named, last) = (random.below(used - 1), entries.end - 3);
+            let question = store[entries.start + 3 * named as usize];
+            store[last] = random.between(question, q);
+            store[last + random.between(1, 2) as usize] = named + FIRST_ENTRY;
+        }
+        _ => store.copy_within(at..at + 3, entries.end - 3),
     }
 }

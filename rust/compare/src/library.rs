@@ -16,8 +16,8 @@ impl Operations for Library {
         SimplifyAnswer { number, result, left, right, gap }
     }
 
-    fn open(&self, n: u32, list: &[u32], store: &mut [u32]) -> Answer {
-        answer(words::open(n, list, store))
+    fn open(&self, n: u32, order: u32, list: &[u32], store: &mut [u32]) -> Answer {
+        answer(words::open(n, order, list, store))
     }
 
     fn build(&self, store: &mut [u32], rule: &[u32]) -> Answer {

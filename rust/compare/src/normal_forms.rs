@@ -3,7 +3,7 @@
 use std::cmp::Ordering;
 use std::collections::HashSet;
 
-use independent::{Term, FIRST_ENTRY, MOST_CHECKED_STEPS, MOST_FIELDS};
+use independent::{Term, FIELDS_FIRST, FIRST_ENTRY, MOST_CHECKED_STEPS, MOST_FIELDS};
 
 use crate::generate::{in_order, question, rank, Gaps, Size};
 use crate::random::Random;
@@ -69,7 +69,7 @@ impl Growing {
     fn compared(&self, handle: u32, pair: &[u32; 2]) -> Ordering {
         handle.checked_sub(FIRST_ENTRY).map_or(Ordering::Greater, |place| {
             let [left, right, ..] = self.entries[place as usize];
-            rank(&[left, right]).cmp(&rank(pair))
+            rank(FIELDS_FIRST, &[left, right]).cmp(&rank(FIELDS_FIRST, pair))
         })
     }
 
@@ -133,11 +133,11 @@ pub fn grown(random: &mut Random, list: &[u32], lapse: Lapse) -> Vec<Entry> {
     growing.entries
 }
 
-/// A list of equations in their order.
+/// A list of equations in the order of Definition 27.
 pub fn equations(random: &mut Random, size: Size) -> Vec<u32> {
     let n = random.between(size.fields.0, size.fields.1);
     let wanted = random.between(1, size.most_questions);
-    in_order((0..wanted).map(|_| question(random, n, size.gaps)).collect())
+    in_order(FIELDS_FIRST, (0..wanted).map(|_| question(random, n, size.gaps)).collect())
 }
 
 /// The entries that the last one reaches, in any order that has each entry's parts before it.
@@ -189,7 +189,7 @@ pub fn large(random: &mut Random, entries: usize) -> Vec<Entry> {
         }
     }
     let mut pairs: Vec<[u32; 2]> = pairs.into_iter().collect();
-    pairs.sort_by_key(rank);
+    pairs.sort_by_key(|pair| rank(FIELDS_FIRST, pair));
     let mut growing = Growing::default();
     let mut chains = [0, 0];
     for [left, right] in pairs.into_iter().rev() {

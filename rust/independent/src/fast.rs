@@ -5,6 +5,7 @@ use std::collections::HashMap;
 use crate::refusal::*;
 use crate::{normal_form, Answer, Operations, SimplifyAnswer, Term};
 use crate::{ALWAYS, FIRST_ENTRY, HEADING, MOST_ENTRIES, MOST_FIELDS, MOST_QUESTIONS, MOST_ROWS, NEVER};
+use crate::{FIELDS_FIRST, ORDERS};
 
 /// The operations. They keep nothing between calls: all that is known stands in the lent store.
 pub struct Fast;
@@ -147,10 +148,13 @@ impl Bounds {
 // The store
 // ---------------------------------------------------------------------------------------------------------------------
 
-/// The questions of a list, or the first of 11 to 16 that it meets.
-fn checked_list(n: u32, words: &[u32]) -> Result<Vec<Question>, u32> {
+/// The questions of a list, or the first of 11 to 18 that it meets.
+fn checked_list(n: u32, order: u32, words: &[u32]) -> Result<Vec<Question>, u32> {
     if n > MOST_FIELDS {
         return Err(TOO_MANY_FIELDS);
+    }
+    if !ORDERS.contains(&order) {
+        return Err(UNKNOWN_ORDER);
     }
     if !words.len().is_multiple_of(2) {
         return Err(ODD_LIST);
@@ -169,7 +173,9 @@ fn checked_list(n: u32, words: &[u32]) -> Result<Vec<Question>, u32> {
             Simplified::Question(question) if question.words() == pair => questions.push(question),
             _ => return Err(NOT_SIMPLIFIED),
         }
-        let rank = Some((left.field, right.field, left.steps, right.steps));
+        // The orders differ in which of these two numbers is compared first.
+        let between = if order == FIELDS_FIRST { [right.field, left.steps] } else { [left.steps, right.field] };
+        let rank = Some((left.field, between, right.steps));
         if before >= rank {
             return Err(NOT_ASCENDING);
         }
@@ -201,13 +207,13 @@ impl Contents<'_> {
     }
 
     fn of_sound(store: &[u32]) -> Option<Contents<'_>> {
-        let [n, q, used, rest @ ..] = store else { return None };
+        let [n, q, used, order, rest @ ..] = store else { return None };
         let (q, used) = (*q as usize, *used as usize);
         if q > MOST_QUESTIONS || rest.len() < 2 * q {
             return None;
         }
         let (list, rest) = rest.split_at(2 * q);
-        let questions = checked_list(*n, list).ok()?;
+        let questions = checked_list(*n, *order, list).ok()?;
         let room = (rest.len() / 3).min(MOST_ENTRIES);
         if used > room {
             return None;
@@ -635,13 +641,13 @@ impl LeastSearch<'_> {
 // The operations
 // ---------------------------------------------------------------------------------------------------------------------
 
-fn open(n: u32, list: &[u32], store: &mut [u32]) -> Result<u32, u32> {
-    let questions = checked_list(n, list)?;
+fn open(n: u32, order: u32, list: &[u32], store: &mut [u32]) -> Result<u32, u32> {
+    let questions = checked_list(n, order, list)?;
     let end = HEADING + list.len();
     if store.len() < end {
         return Err(STORE_TOO_SHORT);
     }
-    store[..HEADING].copy_from_slice(&[n, questions.len() as u32, 0]);
+    store[..HEADING].copy_from_slice(&[n, questions.len() as u32, 0, order]);
     store[HEADING..end].copy_from_slice(list);
     store[end..].fill(0);
     Ok(0)
@@ -754,8 +760,8 @@ impl Operations for Fast {
         }
     }
 
-    fn open(&self, n: u32, list: &[u32], store: &mut [u32]) -> Answer {
-        open(n, list, store).into()
+    fn open(&self, n: u32, order: u32, list: &[u32], store: &mut [u32]) -> Answer {
+        open(n, order, list, store).into()
     }
 
     fn build(&self, store: &mut [u32], rule: &[u32]) -> Answer {

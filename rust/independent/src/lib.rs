@@ -10,7 +10,7 @@
 //! Tables of diagrams are checked by [`Plain`] as trees, with [`Paths`] to look for a sheet on every path, and by [`Fast`] with the set of
 //! entries below each handle.
 //!
-//! The two share the limits, the refusal numbers and the term words below, and nothing else.
+//! The two share the limits, the numbers of orders and refusals and the term words below, and nothing else.
 
 mod fast;
 mod normal_form;
@@ -35,8 +35,15 @@ pub const MOST_QUESTIONS: usize = 20;
 pub const MOST_ENTRIES: usize = 4096;
 /// The largest number of rows of a rule table.
 pub const MOST_ROWS: usize = 256;
-/// The words of a store before its list.
-pub const HEADING: usize = 3;
+/// The words of a store before its list: n, the number of questions, the entries used, the order.
+pub const HEADING: usize = 4;
+
+/// Document 01's order of questions: left field, right field, left steps, right steps.
+pub const FIELDS_FIRST: u32 = 0;
+/// The older books' order of questions: left field, left steps, right field, right steps.
+pub const LEFT_FIRST: u32 = 1;
+/// Every order.
+pub const ORDERS: [u32; 2] = [FIELDS_FIRST, LEFT_FIRST];
 
 /// The handle of the leaf never.
 pub const NEVER: u32 = 0;
@@ -53,6 +60,7 @@ pub mod refusal {
     pub const LIST_TERM: u32 = 14;
     pub const NOT_SIMPLIFIED: u32 = 15;
     pub const NOT_ASCENDING: u32 = 16;
+    pub const UNKNOWN_ORDER: u32 = 18;
     pub const STORE_TOO_SHORT: u32 = 21;
     pub const NOT_SOUND: u32 = 22;
     pub const SLICE_LENGTH: u32 = 23;
@@ -74,13 +82,14 @@ pub mod refusal {
     pub const NOT_NORMAL_FORM: u32 = 86;
 
     /// Every refusal number.
-    pub const ALL: [u32; 25] = [
+    pub const ALL: [u32; 26] = [
         TOO_MANY_FIELDS,
         ODD_LIST,
         TOO_MANY_QUESTIONS,
         LIST_TERM,
         NOT_SIMPLIFIED,
         NOT_ASCENDING,
+        UNKNOWN_ORDER,
         STORE_TOO_SHORT,
         NOT_SOUND,
         SLICE_LENGTH,
@@ -132,7 +141,7 @@ pub struct SimplifyAnswer {
 /// The eleven operations over lent words. Each way of doing them has this form, so that they can be compared call by call.
 pub trait Operations {
     fn simplify(&self, a: u32, b: u32) -> SimplifyAnswer;
-    fn open(&self, n: u32, list: &[u32], store: &mut [u32]) -> Answer;
+    fn open(&self, n: u32, order: u32, list: &[u32], store: &mut [u32]) -> Answer;
     fn build(&self, store: &mut [u32], rule: &[u32]) -> Answer;
     fn negate(&self, store: &mut [u32], a: u32) -> Answer;
     fn join(&self, store: &mut [u32], a: u32, b: u32) -> Answer;

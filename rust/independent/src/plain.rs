@@ -7,6 +7,7 @@ use std::rc::Rc;
 use crate::refusal::*;
 use crate::{trees, Answer, Operations, SimplifyAnswer, Term};
 use crate::{ALWAYS, FIRST_ENTRY, HEADING, MOST_ENTRIES, MOST_FIELDS, MOST_QUESTIONS, MOST_ROWS, NEVER};
+use crate::{FIELDS_FIRST, LEFT_FIRST};
 
 /// The answers to all questions of a list: bit i is the truth of question i, counted from 0.
 pub type Truths = u32;
@@ -238,17 +239,28 @@ pub(crate) fn simplified(a: Term, b: Term) -> Simplified {
     Simplified::Question((left, right))
 }
 
-/// The numbers that two questions are compared by.
+/// The numbers that two questions are compared by in Definition 27, and in document 01.
 pub(crate) fn rank(question: &Question) -> (u32, u32, u32, u32) {
     let (left, right) = question;
     (left.field, right.field, left.steps, right.steps)
 }
 
-/// The list's questions, or the first of 11 to 16 that it meets.
-fn checked_list(n: u32, words: &[u32]) -> Result<Vec<Question>, u32> {
+/// The numbers that two questions are compared by in the older books.
+fn older_rank(question: &Question) -> (u32, u32, u32, u32) {
+    let (left, right) = question;
+    (left.field, left.steps, right.field, right.steps)
+}
+
+/// The list's questions, or the first of 11 to 18 that it meets.
+fn checked_list(n: u32, order: u32, words: &[u32]) -> Result<Vec<Question>, u32> {
     if n > MOST_FIELDS {
         return Err(TOO_MANY_FIELDS);
     }
+    let rank = match order {
+        FIELDS_FIRST => rank,
+        LEFT_FIRST => older_rank,
+        _ => return Err(UNKNOWN_ORDER),
+    };
     if !words.len().is_multiple_of(2) {
         return Err(ODD_LIST);
     }
@@ -296,11 +308,12 @@ fn sound_contents(store: &[u32]) -> Option<Contents> {
     let n = store[0];
     let q = usize::try_from(store[1]).ok().filter(|q| *q <= MOST_QUESTIONS)?;
     let used = store[2] as usize;
+    let order = store[3];
     let list_end = HEADING + 2 * q;
     if store.len() < list_end {
         return None;
     }
-    let questions = checked_list(n, &store[HEADING..list_end]).ok()?;
+    let questions = checked_list(n, order, &store[HEADING..list_end]).ok()?;
     let room = ((store.len() - list_end) / 3).min(MOST_ENTRIES);
     if used > room {
         return None;
@@ -500,14 +513,15 @@ fn row_holds(rows: &[Row], at: usize, truths: Truths) -> bool {
 // The operations
 // ---------------------------------------------------------------------------------------------------------------------
 
-fn open(n: u32, list: &[u32], store: &mut [u32]) -> Result<u32, u32> {
-    checked_list(n, list)?;
+fn open(n: u32, order: u32, list: &[u32], store: &mut [u32]) -> Result<u32, u32> {
+    checked_list(n, order, list)?;
     if store.len() < HEADING + list.len() {
         return Err(STORE_TOO_SHORT);
     }
     store.fill(0);
     store[0] = n;
     store[1] = (list.len() / 2) as u32;
+    store[3] = order;
     store[HEADING..HEADING + list.len()].copy_from_slice(list);
     Ok(0)
 }
@@ -663,8 +677,8 @@ impl Operations for Plain {
         }
     }
 
-    fn open(&self, n: u32, list: &[u32], store: &mut [u32]) -> Answer {
-        open(n, list, store).into()
+    fn open(&self, n: u32, order: u32, list: &[u32], store: &mut [u32]) -> Answer {
+        open(n, order, list, store).into()
     }
 
     fn build(&self, store: &mut [u32], rule: &[u32]) -> Answer {

@@ -1,6 +1,6 @@
 //! Two rules of a whale survey, and what the library says of them.
 
-use sheet::{Field, Rule, Store, ZERO};
+use sheet::{Field, Order, Rule, Store, ZERO};
 
 fn main() -> Result<(), sheet::Refusal> {
     let (adults, calves, recount) = (Field(1), Field(2), Field(3));
@@ -8,7 +8,7 @@ fn main() -> Result<(), sheet::Refusal> {
     let no_calves = calves.equals(ZERO);
     let same = recount.equals(adults);
     let one_more = recount.equals(adults + 1);
-    let mut store = Store::open(3, [no_adults, no_calves, same, one_more], 100)?;
+    let mut store = Store::open(3, Order::FieldsFirst, [no_adults, no_calves, same, one_more], 100)?;
 
     // The recount is the first count or one more. No adults, no calves.
     let close = store.build(&(Rule::from(same) | one_more.into()))?;

@@ -1,20 +1,20 @@
 //! Rules over counts as decision diagrams with one handle per meaning.
 //!
 //! A sheet has up to 16 fields, each with a count. A rule is a Boolean combination of equations between fields, numbers and fields plus
-//! steps. A [`Store`] is opened for a list of questions, and holds the diagrams of rules over these questions: two rules have the same
-//! [`Handle`] exactly if they agree on every sheet.
+//! steps. A [`Store`] is opened for a list of questions, which stand in one of two [orders](Order), and holds the diagrams of rules over
+//! these questions: two rules have the same [`Handle`] exactly if they agree on every sheet.
 //!
 //! The work is done by a library that is proved to do what it promises; this crate gives it Rust's types. What C's callers have to
 //! see to (that lent memory is there, is as long as they say, and doesn't overlap) can't go wrong here. The library keeps nothing between
 //! calls, so stores can be used from several threads. A call takes less than 65,536 bytes of stack (measured: at most 44,520).
 //!
 //! ```
-//! use sheet::{Field, Rule, Store, Verdict, ZERO};
+//! use sheet::{Field, Order, Rule, Store, Verdict, ZERO};
 //!
 //! // Three counts of the same group: a first count, a second one, and a recount.
 //! let (first, second, recount) = (Field(1), Field(2), Field(3));
 //! let questions = [second.equals(first), recount.equals(first), recount.equals(second)];
-//! let mut store = Store::open(3, questions, 100)?;
+//! let mut store = Store::open(3, Order::FieldsFirst, questions, 100)?;
 //!
 //! let agree = store.build(&(Rule::from(second.equals(first)) & recount.equals(second).into()))?;
 //! let other_words = store.build(&(Rule::from(recount.equals(first)) & recount.equals(second).into()))?;
@@ -42,6 +42,7 @@
 #![warn(missing_docs)]
 
 mod normal_form;
+mod order;
 mod refusal;
 mod rule;
 mod store;
@@ -49,6 +50,7 @@ mod term;
 pub mod words;
 
 pub use normal_form::{DiagramEntry, DiagramTable};
+pub use order::Order;
 pub use refusal::Refusal;
 pub use rule::{Row, RowNumber, Rule, RuleTable};
 pub use store::{Entry, Handle, Store, Verdict};

@@ -25,9 +25,9 @@ impl DiagramEntry {
 /// Diagrams that another tool has made, to be checked: each entry refers to lower handles. Up to 4,096 entries about 16 fields are accepted.
 ///
 /// [`check`](DiagramTable::check) says whether the diagram of a handle, which has to use every entry, is in the normal form of document
-/// 000's Definition 28: along each path the equations ascend, by left field, right field, left steps, right steps; no entry has two equal
-/// parts; and where an equation is true, its left field isn't named again. Then every path is followed by some choice of counts, of any
-/// size, so that a diagram with entries is true of some choices and not of all.
+/// 000's Definition 28: along each path the equations ascend, by left field, right field, left steps, right steps, whatever
+/// [order](crate::Order) stores have; no entry has two equal parts; and where an equation is true, its left field isn't named again. Then
+/// every path is followed by some choice of counts, of any size, so that a diagram with entries is true of some choices and not of all.
 ///
 /// The diagram of "f2 + 2 = f1 and f3 = f2" isn't in normal form: where the first equation is true, the second one can do without f2.
 /// "f2 + 2 = f1 and f3 + 2 = f1" says the same in normal form (document 000's Example 29):

@@ -4,9 +4,9 @@ use std::fmt;
 /// Why a call was refused. A refused call changes nothing.
 ///
 /// ```
-/// use sheet::{Field, Refusal, Store};
+/// use sheet::{Field, Order, Refusal, Store};
 ///
-/// let refusal = Store::open(1, [Field(2).equals(Field(1))], 10).unwrap_err();
+/// let refusal = Store::open(1, Order::FieldsFirst, [Field(2).equals(Field(1))], 10).unwrap_err();
 /// assert_eq!(refusal, Refusal::ListTerm);
 /// assert_eq!(refusal.number(), 14);
 /// assert_eq!(
@@ -27,8 +27,11 @@ pub enum Refusal {
     ListTerm = 14,
     /// 15: an equation of the list that isn't a simplified question.
     NotSimplified = 15,
-    /// 16: a question that isn't strictly above the one before it.
+    /// 16: a question that isn't strictly above the one before it in the list's order.
     NotAscending = 16,
+    /// 18: an order that is neither 0 nor 1. An [`Order`](crate::Order) is always one of them, so only
+    /// [`words::open`](crate::words::open) can give this.
+    UnknownOrder = 18,
     /// 21: a store shorter than its heading and list.
     StoreTooShort = 21,
     /// 22: words that aren't a sound store.
@@ -71,13 +74,14 @@ pub enum Refusal {
 
 impl Refusal {
     /// Every refusal, in the order of the numbers.
-    pub const ALL: [Refusal; 25] = [
+    pub const ALL: [Refusal; 26] = [
         Refusal::TooManyFields,
         Refusal::OddList,
         Refusal::TooManyQuestions,
         Refusal::ListTerm,
         Refusal::NotSimplified,
         Refusal::NotAscending,
+        Refusal::UnknownOrder,
         Refusal::StoreTooShort,
         Refusal::NotSound,
         Refusal::SliceLength,
@@ -127,7 +131,12 @@ impl fmt::Display for Refusal {
             Refusal::ListTerm => "a term of the list has a field above the sheet's last one, or more than 1,023 steps",
             Refusal::NotSimplified => "an equation of the list is not a simplified question",
             Refusal::NotAscending => {
-                "the list is not in order: each question must stand above the one before it, by left field, right field, left steps, right steps"
+                "the list is not in its order: each question must stand above the one before it, by left field, right field, left \
+                 steps, right steps in order 0, and by left field, left steps, right field, right steps in order 1"
+            }
+            Refusal::UnknownOrder => {
+                "the order is neither 0 (by left field, right field, left steps, right steps) nor 1 (by left field, left steps, right \
+                 field, right steps)"
             }
             Refusal::StoreTooShort => "the store has too few words for its heading and its list of questions",
             Refusal::NotSound => "the words are not a sound store",

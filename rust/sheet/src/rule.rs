@@ -107,7 +107,7 @@ pub enum Row {
 /// Unlike in a [`Rule`], a part can be used in many places.
 ///
 /// ```
-/// use sheet::{Field, Row, RuleTable, Store};
+/// use sheet::{Field, Order, Row, RuleTable, Store};
 ///
 /// // Of three fields, an odd number of pairs is equal.
 /// let pairs = [Field(2).equals(Field(1)), Field(3).equals(Field(1)), Field(3).equals(Field(2))];
@@ -118,7 +118,7 @@ pub enum Row {
 ///     let even = table.push(Row::Not(odd));
 ///     odd = table.push(Row::If(equal, even, odd));
 /// }
-/// let mut store = Store::open(3, pairs, 20)?;
+/// let mut store = Store::open(3, Order::FieldsFirst, pairs, 20)?;
 /// let handle = store.build_table(&table)?;
 /// assert!(store.read(handle, &[4, 4, 4])?);
 /// assert!(!store.read(handle, &[4, 5, 6])?);

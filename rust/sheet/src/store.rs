@@ -1,6 +1,6 @@
 use crate::refusal::outcome;
 use crate::words::{self, Answer};
-use crate::{Equation, Question, Refusal, Rule, RuleTable};
+use crate::{Equation, Order, Question, Refusal, Rule, RuleTable};
 
 /// A diagram in a store or in a [`DiagramTable`](crate::DiagramTable). It means something only in the one that gave it.
 #[derive(Clone, Copy, Debug, PartialEq, Eq, Hash, PartialOrd, Ord)]
@@ -59,13 +59,13 @@ pub struct Entry {
 /// Diagrams of rules over one list of questions. Its words are always a sound store.
 ///
 /// ```
-/// use sheet::{Field, Handle, Refusal, Rule, Store};
+/// use sheet::{Field, Handle, Order, Refusal, Rule, Store};
 ///
 /// let questions = [Field(2).equals(Field(1)), Field(3).equals(Field(1)), Field(3).equals(Field(2))];
-/// let mut store = Store::open(3, questions, 4)?;
+/// let mut store = Store::open(3, Order::FieldsFirst, questions, 4)?;
 /// let handle = store.build(&questions[2].into())?;
 /// assert_eq!(handle.number(), 5);
-/// assert_eq!(store.as_words(), [3, 3, 4, 2, 1, 3, 1, 3, 2, 2, 1, 0, 3, 1, 0, 2, 0, 3, 1, 2, 4]);
+/// assert_eq!(store.as_words(), [3, 3, 4, 0, 2, 1, 3, 1, 3, 2, 2, 1, 0, 3, 1, 0, 2, 0, 3, 1, 2, 4]);
 ///
 /// // All four entries are in use. What needs a fifth is refused, and changes nothing.
 /// assert_eq!(store.negate(handle), Err(Refusal::NoRoom));
@@ -81,17 +81,18 @@ pub struct Store {
     words: Vec<u32>,
 }
 
-/// The words before the list: fields, questions, used entries.
-const HEADING: usize = 3;
+/// The words before the list: fields, questions, used entries, order.
+const HEADING: usize = 4;
 /// The most entries that a store has room for.
 const MOST_ENTRIES: usize = 4096;
 /// The most words of a rule that is written back: 256 rows of four.
 const MOST_RULE_WORDS: usize = 1024;
 
 impl Store {
-    /// Opens a store for sheets of `fields` fields and a list of up to 20 questions in their order, with room for `room` entries, of
-    /// which 4,096 are the most that can be used.
-    pub fn open<Q>(fields: u32, questions: Q, room: usize) -> Result<Store, Refusal>
+    /// Opens a store for sheets of `fields` fields and a list of up to 20 questions, which stand in the order given, with room for `room`
+    /// entries, of which 4,096 are the most that can be used. Questions that come in any order are put into theirs by
+    /// [`Order::arrange`].
+    pub fn open<Q>(fields: u32, order: Order, questions: Q, room: usize) -> Result<Store, Refusal>
     where
         Q: IntoIterator,
         Q::Item: Into<Equation>,
@@ -102,7 +103,7 @@ impl Store {
             .flat_map(|Equation { left, right }| [left.word(), right.word()])
             .collect();
         let mut words = vec![0; HEADING + list.len() + 3 * room.min(MOST_ENTRIES)];
-        result(words::open(fields, &list, &mut words))?;
+        result(words::open(fields, order.number(), &list, &mut words))?;
         Ok(Store { words })
     }
 
@@ -139,6 +140,11 @@ impl Store {
     /// How many entries are used.
     pub fn used(&self) -> usize {
         self.words[2] as usize
+    }
+
+    /// The order in which the questions stand.
+    pub fn order(&self) -> Order {
+        Order::from_number(self.words[3]).expect("a sound store names an order")
     }
 
     /// How many entries there is room for, the used ones included.
@@ -210,10 +216,10 @@ impl Store {
     /// A rule table for a handle. Built on this store it gives the handle again, if an operation had returned it.
     ///
     /// ```
-    /// use sheet::{Field, Store, ZERO};
+    /// use sheet::{Field, Order, Store, ZERO};
     ///
     /// let questions = [Field(1).equals(ZERO), Field(1).equals(ZERO + 1)];
-    /// let mut store = Store::open(1, questions, 10)?;
+    /// let mut store = Store::open(1, Order::FieldsFirst, questions, 10)?;
     /// let handle = store.build(&questions[1].into())?;
     /// let table = store.write_back(handle)?;
     /// assert_eq!(store.build_table(&table)?, handle);

@@ -1,4 +1,3 @@
-use std::cmp::Ordering;
 use std::fmt;
 use std::ops::Add;
 
@@ -148,10 +147,12 @@ impl fmt::Display for Equation {
     }
 }
 
-/// A simplified equation that is true on some sheets and false on others. Questions are ordered as a store's list must be.
+/// A simplified equation that is true on some sheets and false on others.
+///
+/// Questions have no order of their own, as there are two: an [`Order`](crate::Order) compares them, and arranges them as a store's list.
 ///
 /// ```
-/// use sheet::{Field, Question, Simplified, Store};
+/// use sheet::{Field, Order, Question, Simplified, Store};
 ///
 /// // Equations as they come, into a list that a store can be opened for.
 /// let equations = [Field(2).equals(Field(3)), (Field(1) + 1).equals(Field(2) + 1), Field(1).equals(Field(2))];
@@ -161,10 +162,9 @@ impl fmt::Display for Equation {
 ///         questions.push(question);
 ///     }
 /// }
-/// questions.sort();
-/// questions.dedup();
-/// let store = Store::open(3, questions, 10)?;
-/// assert_eq!(store.as_words()[..7], [3, 2, 0, 2, 1, 3, 2]);
+/// Order::FieldsFirst.arrange(&mut questions);
+/// let store = Store::open(3, Order::FieldsFirst, questions, 10)?;
+/// assert_eq!(store.as_words()[..8], [3, 2, 0, 0, 2, 1, 3, 2]);
 /// # Ok::<(), sheet::Refusal>(())
 /// ```
 #[derive(Clone, Copy, Debug, PartialEq, Eq, Hash)]
@@ -189,29 +189,11 @@ impl Question {
     pub fn gap(self) -> i32 {
         self.gap
     }
-
-    /// The numbers that the order compares.
-    fn rank(&self) -> [u32; 4] {
-        let Equation { left, right } = self.equation;
-        [left.field.0, right.field.0, left.steps.0, right.steps.0]
-    }
 }
 
 impl From<Question> for Equation {
     fn from(question: Question) -> Equation {
         question.equation
-    }
-}
-
-impl Ord for Question {
-    fn cmp(&self, other: &Question) -> Ordering {
-        self.rank().cmp(&other.rank())
-    }
-}
-
-impl PartialOrd for Question {
-    fn partial_cmp(&self, other: &Question) -> Option<Ordering> {
-        Some(self.cmp(other))
     }
 }
 

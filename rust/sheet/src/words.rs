@@ -1,15 +1,15 @@
 //! The eleven operations on lent words, as C has them but with slices: no call can be given overlapping, dangling or wrongly measured memory.
 //!
 //! Every call is safe on any words whatever: the library is proved for all of them, and refuses what it can't work with. What the
-//! words and numbers mean stands at [`Store`](crate::Store), [`RuleTable`](crate::RuleTable), [`DiagramTable`](crate::DiagramTable)
-//! and [`Refusal`](crate::Refusal).
+//! words and numbers mean stands at [`Store`](crate::Store), [`Order`](crate::Order), [`RuleTable`](crate::RuleTable),
+//! [`DiagramTable`](crate::DiagramTable) and [`Refusal`](crate::Refusal).
 //!
 //! ```
 //! use sheet::words;
 //!
-//! // Three fields, the questions 2 = 1, 3 = 1, 3 = 2, room for four entries; then the rule 3 = 2.
-//! let mut store = [0; 21];
-//! assert_eq!(words::open(3, &[2, 1, 3, 1, 3, 2], &mut store).number, 0);
+//! // Three fields, the questions 2 = 1, 3 = 1, 3 = 2 in order 0, room for four entries; then the rule 3 = 2.
+//! let mut store = [0; 22];
+//! assert_eq!(words::open(3, 0, &[2, 1, 3, 1, 3, 2], &mut store).number, 0);
 //! let answer = words::build(&mut store, &[2, 3, 2, 0]);
 //! assert_eq!((answer.number, answer.result), (0, 5));
 //! ```
@@ -18,7 +18,7 @@
 //!
 //! ```compile_fail,E0502
 //! let mut store = vec![0; 20];
-//! sheet::words::open(1, &store[3..5], &mut store);
+//! sheet::words::open(1, 0, &store[4..6], &mut store);
 //! ```
 
 /// An answer: number 0 and a result, or a refusal's number and 0.
@@ -53,7 +53,14 @@ mod c {
 
     extern "C" {
         pub fn sheet_simplify(a: u32, b: u32) -> SimplifyAnswer;
-        pub fn sheet_open(n: u32, list: *const u32, list_len: usize, store: *mut u32, store_len: usize) -> Answer;
+        pub fn sheet_open(
+            n: u32,
+            order: u32,
+            list: *const u32,
+            list_len: usize,
+            store: *mut u32,
+            store_len: usize,
+        ) -> Answer;
         pub fn sheet_build(store: *mut u32, store_len: usize, rule: *const u32, rule_len: usize) -> Answer;
         pub fn sheet_negate(store: *mut u32, store_len: usize, a: u32) -> Answer;
         pub fn sheet_join(store: *mut u32, store_len: usize, a: u32, b: u32) -> Answer;
@@ -76,10 +83,10 @@ pub fn simplify(a: u32, b: u32) -> SimplifyAnswer {
     unsafe { c::sheet_simplify(a, b) }
 }
 
-/// Opens a store for n fields and a list of questions, two term words each.
-pub fn open(n: u32, list: &[u32], store: &mut [u32]) -> Answer {
+/// Opens a store for n fields and a list of questions in an order, two term words each.
+pub fn open(n: u32, order: u32, list: &[u32], store: &mut [u32]) -> Answer {
     // SAFETY: pointers and lengths are those of borrowed slices.
-    unsafe { c::sheet_open(n, list.as_ptr(), list.len(), store.as_mut_ptr(), store.len()) }
+    unsafe { c::sheet_open(n, order, list.as_ptr(), list.len(), store.as_mut_ptr(), store.len()) }
 }
 
 /// Adds the finished diagram of a rule table. The result is its handle.

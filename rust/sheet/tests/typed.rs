@@ -1,7 +1,7 @@
 //! The typed interface gives what the words give, and every refusal that its types leave possible.
 
-use sheet::{words, DiagramEntry, DiagramTable, Equation, Field, Handle, Refusal, Row, RowNumber, Rule, RuleTable};
-use sheet::{Store, Verdict, ZERO};
+use sheet::{words, DiagramEntry, DiagramTable, Equation, Field, Handle, Order, Question, Refusal, Row, RowNumber};
+use sheet::{Rule, RuleTable, Simplified, Store, Verdict, ZERO};
 
 fn pairs() -> [Equation; 3] {
     [Field(2).equals(Field(1)), Field(3).equals(Field(1)), Field(3).equals(Field(2))]
@@ -13,20 +13,102 @@ fn numbers(questions: u32) -> Vec<Equation> {
 
 #[test]
 fn opening_is_refused() {
-    let refusal = |fields: u32, questions: &[Equation]| Store::open(fields, questions.iter().copied(), 1).unwrap_err();
-    assert_eq!(refusal(17, &pairs()), Refusal::TooManyFields);
-    assert_eq!(refusal(1, &numbers(21)), Refusal::TooManyQuestions);
-    assert_eq!(refusal(2, &pairs()), Refusal::ListTerm);
-    assert_eq!(refusal(3, &[Field(1).equals(ZERO + 1_024)]), Refusal::ListTerm);
-    assert_eq!(refusal(3, &[Field(1).equals(Field(2))]), Refusal::NotSimplified);
-    assert_eq!(refusal(3, &[pairs()[1], pairs()[0]]), Refusal::NotAscending);
+    for order in Order::ALL {
+        let refusal =
+            |fields: u32, questions: &[Equation]| Store::open(fields, order, questions.iter().copied(), 1).unwrap_err();
+        assert_eq!(refusal(17, &pairs()), Refusal::TooManyFields);
+        assert_eq!(refusal(1, &numbers(21)), Refusal::TooManyQuestions);
+        assert_eq!(refusal(2, &pairs()), Refusal::ListTerm);
+        assert_eq!(refusal(3, &[Field(1).equals(ZERO + 1_024)]), Refusal::ListTerm);
+        assert_eq!(refusal(3, &[Field(1).equals(Field(2))]), Refusal::NotSimplified);
+        assert_eq!(refusal(3, &[pairs()[1], pairs()[0]]), Refusal::NotAscending);
+    }
+}
+
+/// S(3) = 1 and 3 = 2, as each order lists them.
+fn told_apart(order: Order) -> [Equation; 2] {
+    let [one_less, same] = [(Field(3) + 1).equals(Field(1)), Field(3).equals(Field(2))];
+    match order {
+        Order::FieldsFirst => [one_less, same],
+        Order::LeftFirst => [same, one_less],
+    }
+}
+
+#[test]
+fn the_order_says_which_list_opens() {
+    for (order, other) in [(Order::FieldsFirst, Order::LeftFirst), (Order::LeftFirst, Order::FieldsFirst)] {
+        let store = Store::open(3, order, told_apart(order), 2).unwrap();
+        assert_eq!(store.order(), order);
+        assert!(store.questions().into_iter().map(Equation::from).eq(told_apart(order)));
+        assert_eq!(Store::open(3, other, told_apart(order), 2), Err(Refusal::NotAscending));
+    }
+}
+
+#[test]
+fn an_unknown_order_is_refused() {
+    let number = |n: u32, order: u32| words::open(n, order, &[2], &mut [0; 20]).number;
+    assert_eq!(number(17, 2), Refusal::TooManyFields.number());
+    assert_eq!(number(3, 2), Refusal::UnknownOrder.number());
+    assert_eq!(number(3, u32::MAX), Refusal::UnknownOrder.number());
+    assert_eq!(number(3, 1), Refusal::OddList.number());
+}
+
+#[test]
+fn the_order_shapes_the_diagram_and_not_the_rule() {
+    let [one_less, same] = told_apart(Order::FieldsFirst);
+    let words_in = |order: Order| match order {
+        Order::FieldsFirst => [3, 2, 2, 0, 35, 1, 3, 2, 2, 1, 0, 1, 0, 2],
+        Order::LeftFirst => [3, 2, 2, 1, 3, 2, 35, 1, 2, 0, 1, 1, 2, 0],
+    };
+    for order in Order::ALL {
+        let mut store = Store::open(3, order, told_apart(order), 2).unwrap();
+        let only_same = store.build(&(Rule::from(same) & !Rule::from(one_less))).unwrap();
+        assert_eq!(only_same.number(), 3);
+        assert_eq!(store.as_words(), words_in(order));
+        assert_eq!(store.example(only_same), Ok(vec![0, 0, 0]));
+
+        let mut store = Store::open(3, order, told_apart(order), 2).unwrap();
+        let both = store.build(&(Rule::from(same) & one_less.into())).unwrap();
+        assert_eq!(store.verdict(both), Ok(Verdict::Sometimes));
+        assert_eq!(store.example(both), Ok(vec![1, 0, 0]));
+    }
+}
+
+#[test]
+fn a_list_that_ascends_in_both_orders_opens_in_both() {
+    let entries = [2, 1, 0, 3, 1, 0, 2, 0, 3, 1, 2, 4];
+    for order in Order::ALL {
+        let mut store = Store::open(3, order, pairs(), 4).unwrap();
+        assert_eq!(store.build(&pairs()[2].into()).unwrap().number(), 5);
+        assert_eq!(store.as_words()[..4], [3, 3, 4, order.number()]);
+        assert_eq!(store.as_words()[10..], entries);
+    }
+}
+
+#[test]
+fn questions_are_arranged_in_either_order() {
+    let question = |equation: Equation| match equation.simplify() {
+        Ok(Simplified::Question(question)) => question,
+        other => panic!("{equation} is no question but {other:?}"),
+    };
+    for order in Order::ALL {
+        let mut questions: Vec<Question> =
+            pairs().into_iter().chain(numbers(2)).rev().chain(told_apart(order)).map(question).collect();
+        order.arrange(&mut questions);
+        assert!(questions.windows(2).all(|pair| order.compare(&pair[0], &pair[1]).is_lt()));
+        // One question stands in two of the lists.
+        assert_eq!(questions.len(), 6);
+        let store = Store::open(3, order, questions.clone(), 1).unwrap();
+        assert_eq!(store.questions(), questions);
+    }
 }
 
 #[test]
 fn steps_go_up_to_their_limit() {
     // The aerial count is the deck count plus 400.
     let (deck, aerial) = (Field(1), Field(2));
-    let mut store = Store::open(2, [aerial.equals(deck + 400), aerial.equals(deck + 1_023)], 10).unwrap();
+    let questions = [aerial.equals(deck + 400), aerial.equals(deck + 1_023)];
+    let mut store = Store::open(2, Order::FieldsFirst, questions, 10).unwrap();
     let higher = store.build(&aerial.equals(deck + 400).into()).unwrap();
     assert_eq!(store.example(higher), Ok(vec![0, 400]));
     let highest = store.build(&aerial.equals(deck + 1_023).into()).unwrap();
@@ -40,13 +122,13 @@ fn steps_go_up_to_their_limit() {
 fn terms_too_large_for_a_word_are_refused_and_not_taken_for_others() {
     for term in [Field(33) + 0, Field(u32::MAX) + 0, Field(1) + (1 << 27), Field(1) + u32::MAX, Field(17) + 0] {
         assert_eq!(term.equals(ZERO).simplify(), Err(Refusal::RuleTerm));
-        assert_eq!(Store::open(16, [term.equals(ZERO)], 1).unwrap_err(), Refusal::ListTerm);
+        assert_eq!(Store::open(16, Order::FieldsFirst, [term.equals(ZERO)], 1).unwrap_err(), Refusal::ListTerm);
     }
 }
 
 #[test]
 fn building_is_refused() {
-    let mut store = Store::open(3, pairs(), 4).unwrap();
+    let mut store = Store::open(3, Order::FieldsFirst, pairs(), 4).unwrap();
     let before = store.clone();
     let mut refusal = |rows: &[Row]| {
         let mut table = RuleTable::new();
@@ -63,7 +145,7 @@ fn building_is_refused() {
     assert_eq!(store, before);
 
     // The diagram of 3 = 2 has four entries.
-    let mut small = Store::open(3, pairs(), 3).unwrap();
+    let mut small = Store::open(3, Order::FieldsFirst, pairs(), 3).unwrap();
     let before = small.clone();
     assert_eq!(small.build(&pairs()[2].into()), Err(Refusal::NoRoom));
     assert_eq!(small, before);
@@ -71,7 +153,7 @@ fn building_is_refused() {
 
 #[test]
 fn handles_and_sheets_are_refused() {
-    let mut store = Store::open(3, pairs(), 10).unwrap();
+    let mut store = Store::open(3, Order::FieldsFirst, pairs(), 10).unwrap();
     let missing = Handle::from_number(2);
     assert_eq!(store.negate(missing), Err(Refusal::NoSuchHandle));
     assert_eq!(store.join(Handle::ALWAYS, missing), Err(Refusal::NoSuchHandle));
@@ -88,7 +170,7 @@ fn handles_and_sheets_are_refused() {
 #[test]
 fn unsound_words_are_refused() {
     assert_eq!(Store::from_words(vec![]), Err(Refusal::NotSound));
-    let mut store = Store::open(3, pairs(), 10).unwrap();
+    let mut store = Store::open(3, Order::FieldsFirst, pairs(), 10).unwrap();
     store.build(&pairs()[2].into()).unwrap();
     for place in 0..store.as_words().len() {
         let mut words = store.as_words().to_vec();
@@ -96,6 +178,30 @@ fn unsound_words_are_refused() {
         assert_eq!(Store::from_words(words), Err(Refusal::NotSound));
     }
     assert_eq!(Store::from_words(store.as_words().to_vec()), Ok(store));
+}
+
+#[test]
+fn words_are_sound_in_the_order_that_they_name() {
+    // No heading without an order.
+    assert_eq!(Store::from_words(vec![0; 3]), Err(Refusal::NotSound));
+    assert!(Store::from_words(vec![0; 4]).is_ok());
+
+    // A list for one order only.
+    assert!(Store::from_words(vec![3, 2, 0, 0, 35, 1, 3, 2]).is_ok());
+    assert_eq!(Store::from_words(vec![3, 2, 0, 1, 35, 1, 3, 2]), Err(Refusal::NotSound));
+
+    // A list for both, named in turn; and words that name no order.
+    let mut store = Store::open(3, Order::FieldsFirst, pairs(), 4).unwrap();
+    store.build(&pairs()[2].into()).unwrap();
+    let named = |number: u32| {
+        let mut words = store.as_words().to_vec();
+        words[3] = number;
+        Store::from_words(words).map(|store| store.order())
+    };
+    assert_eq!(named(0), Ok(Order::FieldsFirst));
+    assert_eq!(named(1), Ok(Order::LeftFirst));
+    assert_eq!(named(2), Err(Refusal::NotSound));
+    assert_eq!(named(u32::MAX), Err(Refusal::NotSound));
 }
 
 #[test]
@@ -115,9 +221,9 @@ fn parts_of_a_rule_share_rows() {
 
 #[test]
 fn a_store_shows_its_words() {
-    let mut store = Store::open(3, pairs(), 10).unwrap();
+    let mut store = Store::open(3, Order::FieldsFirst, pairs(), 10).unwrap();
     let handle = store.build(&pairs()[2].into()).unwrap();
-    assert_eq!((store.fields(), store.used(), store.room()), (3, 4, 10));
+    assert_eq!((store.fields(), store.used(), store.order(), store.room()), (3, 4, Order::FieldsFirst, 10));
     assert!(store.questions().into_iter().map(Equation::from).eq(pairs()));
     let entry = store.entry(handle).unwrap();
     assert_eq!((entry.question.equation(), entry.yes.number(), entry.no.number()), (pairs()[0], 2, 4));

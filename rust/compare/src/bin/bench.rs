@@ -12,7 +12,7 @@ use compare::generate::{in_order, parity_rule, sound_entries, store_of, tangled_
 use compare::library::Library;
 use compare::normal_forms::{self, last, Entry};
 use compare::random::Random;
-use independent::{Fast, Operations, Term, FIRST_ENTRY, HEADING, MOST_ENTRIES, MOST_STEPS};
+use independent::{Fast, Operations, Term, FIELDS_FIRST, FIRST_ENTRY, HEADING, MOST_ENTRIES, MOST_STEPS};
 
 /// A row's process is ended after this time.
 const MOST_TIME: Duration = Duration::from_secs(60);
@@ -111,30 +111,35 @@ fn question(left: u32, right: u32, gap: u32) -> [u32; 2] {
     [Term { field: left, steps: 0 }.word(), Term { field: right, steps: gap }.word()]
 }
 
+/// A survey of questions in document 01's order.
+fn survey(n: u32, questions: impl Iterator<Item = [u32; 2]>) -> Survey {
+    Survey { n, order: FIELDS_FIRST, list: in_order(FIELDS_FIRST, questions.collect()) }
+}
+
 /// Sixteen fields, each against zero, and four pairs: 20 questions of which few are ever forced, so that walks are long.
 fn wide() -> Survey {
     let zeros = (1..=16).map(|field| question(field, 0, 0));
     let pairs = [2, 4, 6, 8].map(|field| question(field, field - 1, 0));
-    Survey { n: 16, list: in_order(zeros.chain(pairs).collect()) }
+    survey(16, zeros.chain(pairs))
 }
 
 /// Sixteen fields in a chain with gaps, and five against numbers: hardly any question is forced, so that walks are as long as they get.
 fn chain() -> Survey {
     let links = (2..=16).map(|field| question(field, field - 1, field));
     let numbers = [1, 5, 8, 11, 14].map(|field| question(field, 0, 3 * (field - 1)));
-    Survey { n: 16, list: in_order(links.chain(numbers).collect()) }
+    survey(16, links.chain(numbers))
 }
 
 /// All pairs of six fields, and five of these against zero: 20 questions with many forced ones and large diagrams.
 fn dense() -> Survey {
     let pairs = (2..=6).flat_map(|left| (1..left).map(move |right| question(left, right, 0)));
     let zeros = (2..=6).map(|field| question(field, 0, 0));
-    Survey { n: 6, list: in_order(pairs.chain(zeros).collect()) }
+    survey(6, pairs.chain(zeros))
 }
 
 /// One field against 20 numbers: walks are short, so that the entries of the store count.
 fn one_field() -> Survey {
-    Survey { n: 1, list: (0..20).flat_map(|number| question(1, 0, number)).collect() }
+    survey(1, (0..20).map(|number| question(1, 0, number)))
 }
 
 /// The rule that all of the list words' questions are true.
@@ -149,7 +154,7 @@ fn all_of(list: &[u32]) -> Vec<u32> {
 
 fn opened(survey: &Survey, room: usize) -> Vec<u32> {
     let mut store = vec![0; HEADING + survey.list.len() + 3 * room];
-    assert_eq!(Fast.open(survey.n, &survey.list, &mut store).number, 0);
+    assert_eq!(Fast.open(survey.n, survey.order, &survey.list, &mut store).number, 0);
     store
 }
 
@@ -240,7 +245,7 @@ fn small_rows() -> Vec<Row> {
         row(GROUP, "open, 20 questions, room for 4,096 entries", || {
             let survey = wide();
             changing(opened(&survey, MOST_ENTRIES), move |operations, store| {
-                operations.open(survey.n, &survey.list, store).number
+                operations.open(survey.n, survey.order, &survey.list, store).number
             })
         }),
         row(GROUP, "verdict of never: the soundness test of 4,096 entries", || {
@@ -305,10 +310,10 @@ fn growth_rows() -> Vec<Row> {
     let mut rows = Vec::new();
     for count in [4, 8, 12, 16, 20] {
         rows.push(row(QUESTIONS, format!("q = {count}"), move || {
-            let Survey { n, mut list } = wide();
-            list.truncate(2 * count);
-            let rule = parity_rule(&list);
-            building(Survey { n, list }, rule)
+            let mut survey = wide();
+            survey.list.truncate(2 * count);
+            let rule = parity_rule(&survey.list);
+            building(survey, rule)
         }));
     }
     for entries in [0, 256, 1024, MOST_ENTRIES - 1] {

@@ -3,13 +3,23 @@
 use compare::calls::{Call, Outcome};
 use compare::comparison::Comparison;
 use compare::random::Random;
+use independent::{FIELDS_FIRST, LEFT_FIRST, ORDERS};
 
 const EXACT: &str = "a case of the documents";
 
-fn opened(comparison: &mut Comparison, n: u32, list: &[u32], length: usize) -> Vec<u32> {
-    let outcome = comparison.call(&Call::Open { n, list: list.to_vec() }, &vec![1; length]);
+fn open(comparison: &mut Comparison, n: u32, order: u32, list: &[u32], length: usize) -> Outcome {
+    comparison.call(&Call::Open { n, order, list: list.to_vec() }, &vec![1; length])
+}
+
+fn opened_in(comparison: &mut Comparison, n: u32, order: u32, list: &[u32], length: usize) -> Vec<u32> {
+    let outcome = open(comparison, n, order, list, length);
     answer(comparison, &outcome, 0, 0);
     outcome.store
+}
+
+/// A store opened in document 01's order.
+fn opened(comparison: &mut Comparison, n: u32, list: &[u32], length: usize) -> Vec<u32> {
+    opened_in(comparison, n, FIELDS_FIRST, list, length)
 }
 
 fn answer(comparison: &mut Comparison, outcome: &Outcome, number: u32, result: u32) {
@@ -33,6 +43,8 @@ fn built(comparison: &mut Comparison, store: &[u32], rows: &[[u32; 4]]) -> Outco
 
 /// Case 6's list: 2 = 1, 3 = 1, 3 = 2.
 const THREE: [u32; 6] = [2, 1, 3, 1, 3, 2];
+/// The words of case 6's store with 3 = 2 built.
+const CASE_6: [u32; 22] = [3, 3, 4, 0, 2, 1, 3, 1, 3, 2, 2, 1, 0, 3, 1, 0, 2, 0, 3, 1, 2, 4];
 
 pub fn document_cases(comparison: &mut Comparison, _: &mut Random, _: u64) {
     terms(comparison);
@@ -41,6 +53,7 @@ pub fn document_cases(comparison: &mut Comparison, _: &mut Random, _: u64) {
     three_fields(comparison);
     examples(comparison);
     limits(comparison);
+    orders(comparison);
 }
 
 /// Cases 1 to 4.
@@ -53,8 +66,8 @@ fn terms(comparison: &mut Comparison) {
     simplified(comparison, 1, 32736, (0, 2, 1, 32736, 1023));
     simplified(comparison, 1, 32768, (35, 0, 0, 0, 0));
     simplified(comparison, 32768, 1, (35, 0, 0, 0, 0));
-    opened(comparison, 1, &[1, 32736], 5);
-    let refused = comparison.call(&Call::Open { n: 1, list: vec![1, 32768] }, &[1; 5]);
+    opened(comparison, 1, &[1, 32736], 6);
+    let refused = open(comparison, 1, FIELDS_FIRST, &[1, 32768], 6);
     answer(comparison, &refused, 14, 0);
 }
 
@@ -69,6 +82,11 @@ fn steps(comparison: &mut Comparison) {
     steps_in_a_store(comparison);
 }
 
+fn verdict(comparison: &mut Comparison, store: &[u32], handle: u32, (number, result): (u32, u32)) {
+    let verdict = comparison.call(&Call::Verdict(handle), store);
+    answer(comparison, &verdict, number, result);
+}
+
 fn example(comparison: &mut Comparison, store: &[u32], handle: u32, expected: &[u16]) {
     let example = comparison.call(&Call::Example { handle, sheet: vec![9; expected.len()] }, store);
     answer(comparison, &example, 0, 0);
@@ -77,10 +95,10 @@ fn example(comparison: &mut Comparison, store: &[u32], handle: u32, expected: &[
 
 /// S1023(2) = 1, and its negation.
 fn steps_built(comparison: &mut Comparison) {
-    let store = opened(comparison, 2, &[32738, 1], 11);
+    let store = opened(comparison, 2, &[32738, 1], 12);
     let equation = built(comparison, &store, &[[2, 1, 32738, 0]]);
     answer(comparison, &equation, 0, 2);
-    equal(comparison, &equation.store, &vec![2, 1, 1, 32738, 1, 1, 1, 0, 0, 0, 0]);
+    equal(comparison, &equation.store, &vec![2, 1, 1, 0, 32738, 1, 1, 1, 0, 0, 0, 0]);
     let negation = comparison.call(&Call::Negate(2), &equation.store);
     answer(comparison, &negation, 0, 3);
     example(comparison, &negation.store, 2, &[1023, 0]);
@@ -90,7 +108,7 @@ fn steps_built(comparison: &mut Comparison) {
 /// 1 = S1023(0), 2 = S1023(1) and so on to 16 = S1023(15).
 fn steps_added_up(comparison: &mut Comparison) {
     let list: Vec<u32> = (1..=16).flat_map(|field| [field, 32736 + field - 1]).collect();
-    let store = opened(comparison, 16, &list, 83);
+    let store = opened(comparison, 16, &list, 84);
     let mut rows = vec![[1, 0, 0, 0]];
     for pair in list.chunks(2) {
         let all_before = rows.len() as u32 - 1;
@@ -104,7 +122,7 @@ fn steps_added_up(comparison: &mut Comparison) {
 
 /// A store whose question has 1,023 steps is sound, and one with 1,024 is not.
 fn steps_in_a_store(comparison: &mut Comparison) {
-    let store = [1, 1, 0, 1, 32736, 0, 0, 0];
+    let store = [1, 1, 0, 0, 1, 32736, 0, 0, 0];
     let rules =
         [([2, 1, 32736, 0], 0, 2), ([2, 1, 32768, 0], 35, 0), ([2, 33, 32768, 0], 35, 0), ([2, 1, 8192, 0], 36, 0)];
     for (row, number, result) in rules {
@@ -112,33 +130,30 @@ fn steps_in_a_store(comparison: &mut Comparison) {
         answer(comparison, &outcome, number, result);
     }
     for (word, number) in [(32736, 0), (32768, 22)] {
-        let verdict = comparison.call(&Call::Verdict(0), &[1, 1, 0, 1, word]);
-        answer(comparison, &verdict, number, 0);
+        verdict(comparison, &[1, 1, 0, 0, 1, word], 0, (number, 0));
     }
 }
 
 /// Case 5.
 fn smallest_store(comparison: &mut Comparison) {
-    let store = opened(comparison, 0, &[], 3);
-    equal(comparison, &store, &vec![0, 0, 0]);
+    let store = opened(comparison, 0, &[], 4);
+    equal(comparison, &store, &vec![0, 0, 0, 0]);
     let always = built(comparison, &store, &[[1, 0, 0, 0]]);
     answer(comparison, &always, 0, 1);
-    let example = comparison.call(&Call::Example { handle: 1, sheet: vec![] }, &store);
-    answer(comparison, &example, 0, 0);
-    let short = comparison.call(&Call::Open { n: 0, list: vec![] }, &[1, 1]);
+    example(comparison, &store, 1, &[]);
+    let short = open(comparison, 0, FIELDS_FIRST, &[], 3);
     answer(comparison, &short, 21, 0);
 }
 
 /// Cases 6 to 8 and 13.
 fn three_fields(comparison: &mut Comparison) {
-    let store = opened(comparison, 3, &THREE, 21);
+    let store = opened(comparison, 3, &THREE, 22);
     let equation = built(comparison, &store, &[[2, 3, 2, 0]]);
     answer(comparison, &equation, 0, 5);
-    let words = vec![3, 3, 4, 2, 1, 3, 1, 3, 2, 2, 1, 0, 3, 1, 0, 2, 0, 3, 1, 2, 4];
-    equal(comparison, &equation.store, &words);
+    equal(comparison, &equation.store[..], &CASE_6);
     let store = equation.store;
 
-    let short = opened(comparison, 3, &THREE, 18);
+    let short = opened(comparison, 3, &THREE, 19);
     let refused = built(comparison, &short, &[[2, 3, 2, 0]]);
     answer(comparison, &refused, 51, 0);
     equal(comparison, &refused.store, &short);
@@ -163,7 +178,7 @@ fn three_fields(comparison: &mut Comparison) {
 /// Cases 9 to 12.
 fn examples(comparison: &mut Comparison) {
     // 000's Example 23: 1 not S(2), 3 = S(1), 3 = S2(2).
-    let store = opened(comparison, 3, &[34, 1, 3, 33, 3, 66], 60);
+    let store = opened(comparison, 3, &[34, 1, 3, 33, 3, 66], 13);
     let rule = [[2, 1, 34, 0], [3, 0, 0, 0], [2, 3, 33, 0], [2, 3, 66, 0], [4, 1, 2, 0], [4, 4, 3, 0]];
     let impossible = built(comparison, &store, &rule);
     answer(comparison, &impossible, 0, 0);
@@ -174,21 +189,19 @@ fn examples(comparison: &mut Comparison) {
     let sometimes = built(comparison, &store, &rule);
     equal(comparison, sometimes.answer.number, 0);
     let handle = sometimes.answer.result;
-    let verdict = comparison.call(&Call::Verdict(handle), &sometimes.store);
-    answer(comparison, &verdict, 0, 2);
-    let example = comparison.call(&Call::Example { handle, sheet: vec![9; 3] }, &sometimes.store);
-    answer(comparison, &example, 0, 0);
-    equal(comparison, &example.sheet, &vec![0, 0, 1]);
+    verdict(comparison, &sometimes.store, handle, (0, 2));
+    example(comparison, &sometimes.store, handle, &[0, 0, 1]);
 
     // Neither 1 = 0 nor 1 = S(0).
-    let store = opened(comparison, 1, &[1, 0, 1, 32], 30);
+    let store = opened(comparison, 1, &[1, 0, 1, 32], 14);
     let rule = [[2, 1, 0, 0], [3, 0, 0, 0], [2, 1, 32, 0], [3, 2, 0, 0], [4, 1, 3, 0]];
     let neither = built(comparison, &store, &rule);
-    let example = comparison.call(&Call::Example { handle: neither.answer.result, sheet: vec![9] }, &neither.store);
-    equal(comparison, &example.sheet, &vec![2]);
+    answer(comparison, &neither, 0, 3);
+    equal(comparison, &neither.store[..], &[1, 2, 2, 0, 1, 0, 1, 32, 2, 0, 1, 1, 0, 2]);
+    example(comparison, &neither.store, 3, &[2]);
 
     // 2 = S(0) and 2 = S3(1).
-    let store = opened(comparison, 2, &[2, 32, 2, 97], 30);
+    let store = opened(comparison, 2, &[2, 32, 2, 97], 8);
     let never = built(comparison, &store, &[[2, 2, 32, 0], [2, 2, 97, 0], [4, 0, 1, 0]]);
     answer(comparison, &never, 0, 0);
 }
@@ -196,11 +209,89 @@ fn examples(comparison: &mut Comparison) {
 /// Case 14.
 fn limits(comparison: &mut Comparison) {
     let list: Vec<u32> = (0..21).flat_map(|steps| [1, 32 * steps]).collect();
-    let store = opened(comparison, 1, &list[..40], 43);
-    let refused = comparison.call(&Call::Open { n: 1, list }, &store);
+    let store = opened(comparison, 1, &list[..40], 44);
+    let refused = open(comparison, 1, FIELDS_FIRST, &list, 44);
     answer(comparison, &refused, 13, 0);
     let accepted = built(comparison, &store, &[[1, 0, 0, 0]; 256]);
     answer(comparison, &accepted, 0, 1);
     let refused = built(comparison, &store, &[[1, 0, 0, 0]; 257]);
     answer(comparison, &refused, 33, 0);
+}
+
+/// S(3) = 1 and 3 = 2 as each order lists them: by right field, and by left steps.
+const TOLD_APART: [[u32; 4]; 2] = [[35, 1, 3, 2], [3, 2, 35, 1]];
+
+/// Document 02's (ix): the order as an input, and in word 3.
+fn orders(comparison: &mut Comparison) {
+    for (order, list) in ORDERS.into_iter().zip(TOLD_APART) {
+        let refused = open(comparison, 3, 1 - order, &list, 14);
+        answer(comparison, &refused, 16, 0);
+        built_in_order(comparison, order, &list);
+    }
+    for (n, order, number) in [(17, 2, 11), (3, 2, 18), (3, u32::MAX, 18), (3, 1, 12)] {
+        let refused = open(comparison, n, order, &[1], 14);
+        answer(comparison, &refused, number, 0);
+    }
+    orders_compared(comparison);
+    case_6_in_order_1(comparison);
+    orders_in_a_store(comparison);
+}
+
+/// S(2) = 1, 3 = S(1), S(3) = 1 and 3 = 2, of which two are exchanged in order 1; and a question twice. Each number counts in its place: the
+/// left field before everything, and the right field before the right steps.
+fn orders_compared(comparison: &mut Comparison) {
+    let four = [[34, 1, 3, 33, 35, 1, 3, 2], [34, 1, 3, 33, 3, 2, 35, 1]];
+    for order in ORDERS {
+        for list_order in ORDERS {
+            let outcome = open(comparison, 3, order, &four[list_order as usize], 12);
+            answer(comparison, &outcome, if order == list_order { 0 } else { 16 }, 0);
+        }
+        let twice = open(comparison, 3, order, &[3, 2, 3, 2], 12);
+        answer(comparison, &twice, 16, 0);
+    }
+}
+
+/// "3 = 2 and not S(3) = 1", and "3 = 2 and S(3) = 1".
+fn built_in_order(comparison: &mut Comparison, order: u32, list: &[u32]) {
+    let store = opened_in(comparison, 3, order, list, 14);
+    let rule = [[2, 3, 2, 0], [2, 35, 1, 0], [3, 1, 0, 0], [4, 0, 2, 0]];
+    let only_one = built(comparison, &store, &rule);
+    answer(comparison, &only_one, 0, 3);
+    let words = match order {
+        FIELDS_FIRST => [3, 2, 2, 0, 35, 1, 3, 2, 2, 1, 0, 1, 0, 2],
+        _ => [3, 2, 2, 1, 3, 2, 35, 1, 2, 0, 1, 1, 2, 0],
+    };
+    equal(comparison, &only_one.store[..], &words);
+    example(comparison, &only_one.store, 3, &[0, 0, 0]);
+
+    let both = built(comparison, &store, &[[2, 3, 2, 0], [2, 35, 1, 0], [4, 0, 1, 0]]);
+    answer(comparison, &both, 0, 3);
+    verdict(comparison, &both.store, 3, (0, 2));
+    example(comparison, &both.store, 3, &[1, 0, 0]);
+}
+
+/// Case 6's list stands in both orders: the entries are the same, and the words are a sound store with either order and no other.
+fn case_6_in_order_1(comparison: &mut Comparison) {
+    let store = opened_in(comparison, 3, LEFT_FIRST, &THREE, 22);
+    let equation = built(comparison, &store, &[[2, 3, 2, 0]]);
+    answer(comparison, &equation, 0, 5);
+    let mut words = CASE_6;
+    words[3] = 1;
+    equal(comparison, &equation.store[..], &words);
+    for (order, expected) in [(0, (0, 2)), (1, (0, 2)), (2, (22, 0)), (u32::MAX, (22, 0))] {
+        words[3] = order;
+        verdict(comparison, &words, 5, expected);
+    }
+}
+
+/// The list of one order under the number of each; three words.
+fn orders_in_a_store(comparison: &mut Comparison) {
+    for (list_order, list) in ORDERS.into_iter().zip(TOLD_APART) {
+        for order in ORDERS {
+            let store = [&[3, 2, 0, order], &list[..]].concat();
+            let number = if order == list_order { 0 } else { 22 };
+            verdict(comparison, &store, 0, (number, 0));
+        }
+    }
+    verdict(comparison, &[0, 0, 0], 0, (22, 0));
 }

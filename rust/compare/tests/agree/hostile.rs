@@ -1,11 +1,11 @@
 //! Words that nobody would write: terms beyond limits, lists with faults, stores that aren't sound or that no operation made.
 
 use compare::calls::Call;
-use compare::comparison::Comparison;
-use compare::generate::{self, FAULTS};
+use compare::comparison::{occasion, Comparison};
+use compare::generate::{self, Fault, Survey, FAULTS};
 use compare::random::Random;
-use independent::refusal::NOT_SOUND;
-use independent::{Fast, Operations, Term};
+use independent::refusal::{NOT_ASCENDING, NOT_SOUND, TOO_MANY_FIELDS, UNKNOWN_ORDER};
+use independent::{Fast, Operations, Term, HEADING, ORDERS};
 
 /// Simplify on words at the limits, on random ones, and its answer against the truth at random counts.
 pub fn simplify(comparison: &mut Comparison, random: &mut Random, cases: u64) {
@@ -60,25 +60,61 @@ fn simplify_one(comparison: &mut Comparison, random: &mut Random, a: u32, b: u32
 /// Opening: lists with and without faults, stores of all lengths, full of other words.
 pub fn opening(comparison: &mut Comparison, random: &mut Random, cases: u64) {
     for _ in 0..10 * cases {
-        let survey = if random.one_in(4) {
+        if random.one_in(4) {
             let size = *random.pick(&generate::SIZES);
-            generate::survey(random, size)
+            let survey = generate::survey(random, size);
+            open_in_both_orders(comparison, random, &survey);
         } else {
-            generate::faulty_survey(random)
-        };
-        let needed = 3 + survey.list.len();
-        let length = match random.below(4) {
-            0 => random.place(needed + 1),
-            1 => needed,
-            _ => needed + random.place(40),
-        };
-        let store: Vec<u32> = (0..length).map(|_| random.word()).collect();
-        comparison.call(&Call::Open { n: survey.n, list: survey.list }, &store);
+            let survey = generate::faulty_survey(random);
+            open_with_faults(comparison, random, &survey);
+        }
+    }
+}
+
+/// Words to open a store in: too few, just enough, or more.
+fn lent_words(random: &mut Random, survey: &Survey) -> Vec<u32> {
+    let needed = HEADING + survey.list.len();
+    let length = match random.below(4) {
+        0 => random.place(needed + 1),
+        1 => needed,
+        _ => needed + random.place(40),
+    };
+    (0..length).map(|_| random.word()).collect()
+}
+
+/// A good list in each order: 16 exactly if sorting it into that order moves a question.
+fn open_in_both_orders(comparison: &mut Comparison, random: &mut Random, survey: &Survey) {
+    let store = lent_words(random, survey);
+    let numbers = ORDERS.map(|order| {
+        let asked = Survey { order, ..survey.clone() };
+        let number = comparison.call(&asked.open(), &store).answer.number;
+        let moved = survey.in_order(order).list != survey.list;
+        comparison.test("a good list opened in an order", (number == NOT_ASCENDING) == moved, || {
+            format!("{number} for {asked:?}")
+        });
+        number
+    });
+    match numbers {
+        [0, 0] => comparison.meet(occasion::LIST_IN_BOTH_ORDERS),
+        [0, NOT_ASCENDING] | [NOT_ASCENDING, 0] => comparison.meet(occasion::LIST_IN_ONE_ORDER),
+        _ => {}
+    }
+}
+
+fn open_with_faults(comparison: &mut Comparison, random: &mut Random, survey: &Survey) {
+    let store = lent_words(random, survey);
+    let number = comparison.call(&survey.open(), &store).answer.number;
+    let unknown_order = !ORDERS.contains(&survey.order);
+    let odd = !survey.list.len().is_multiple_of(2);
+    match number {
+        TOO_MANY_FIELDS if unknown_order && odd => comparison.meet(occasion::FIELDS_BEFORE_ORDER),
+        UNKNOWN_ORDER if odd => comparison.meet(occasion::ORDER_BEFORE_LIST),
+        _ => {}
     }
 }
 
 /// One call of each operation that takes a store.
-fn every_operation(comparison: &mut Comparison, random: &mut Random, survey: &generate::Survey, store: &[u32]) {
+fn every_operation(comparison: &mut Comparison, random: &mut Random, survey: &Survey, store: &[u32]) {
     let used = store.get(2).copied().unwrap_or(0);
     let handles = [0; 9].map(|_| generate::handle(random, used, &[0, 1, 2, used.wrapping_add(1), used / 2 + 1]));
     let rule = if random.one_in(4) { generate::faulty_rule(random, survey) } else { generate::rule(random, survey) };
@@ -112,9 +148,9 @@ pub fn sound_stores(comparison: &mut Comparison, random: &mut Random, cases: u64
 }
 
 /// A store that operations have written.
-fn written_store(random: &mut Random, survey: &generate::Survey) -> Vec<u32> {
+fn written_store(random: &mut Random, survey: &Survey) -> Vec<u32> {
     let mut store = vec![0; generate::store_length(random, survey)];
-    Fast.open(survey.n, &survey.list, &mut store);
+    Fast.open(survey.n, survey.order, &survey.list, &mut store);
     for _ in 0..random.below(5) {
         Fast.build(&mut store, &generate::rule(random, survey));
     }
@@ -136,9 +172,24 @@ pub fn damaged_stores(comparison: &mut Comparison, random: &mut Random, cases: u
         let fault = i % FAULTS.len();
         generate::damage(random, &mut store, FAULTS[fault]);
         every_operation(comparison, random, &survey, &store);
-        refused[fault] |= comparison.call(&Call::Verdict(0), &store).answer.number == NOT_SOUND;
+        let not_sound = comparison.call(&Call::Verdict(0), &store).answer.number == NOT_SOUND;
+        refused[fault] |= not_sound;
+        test_order(comparison, &survey, FAULTS[fault], not_sound);
     }
     for (fault, refused) in FAULTS.into_iter().zip(refused) {
         comparison.test("a fault that makes a store unsound", refused, || format!("{fault:?} was never refused"));
+    }
+}
+
+/// A store in which nothing but word 3 was changed: an unknown order is always refused, the other one exactly if the list isn't in it.
+fn test_order(comparison: &mut Comparison, survey: &Survey, fault: Fault, not_sound: bool) {
+    let (expected, occasion) = match fault {
+        Fault::UnknownOrder => (true, occasion::UNKNOWN_ORDER_NAMED),
+        Fault::OtherOrder => (survey.is_in_one_order(), occasion::OTHER_ORDER_NAMED),
+        _ => return,
+    };
+    comparison.test("a store with another order in word 3", not_sound == expected, || format!("{fault:?} {survey:?}"));
+    if not_sound {
+        comparison.meet(occasion);
     }
 }

@@ -4,16 +4,19 @@ use compare::calls::Call;
 use compare::comparison::Comparison;
 use compare::generate::{self, store_of, Gaps, Size, Survey};
 use compare::random::Random;
-use independent::{FIRST_ENTRY, HEADING, MOST_ENTRIES, MOST_FIELDS, MOST_QUESTIONS, MOST_ROWS};
+use independent::{FIELDS_FIRST, FIRST_ENTRY, HEADING, MOST_ENTRIES, MOST_FIELDS, MOST_QUESTIONS, MOST_ROWS, ORDERS};
 
-/// One field against `questions` numbers: every walk is short, however many entries the store has.
-fn one_field(questions: u32) -> Survey {
-    Survey { n: 1, list: (0..questions).flat_map(|steps| [1, 32 * steps]).collect() }
+/// The last handle of a store with all entries.
+const NEWEST: u32 = MOST_ENTRIES as u32 - 1 + FIRST_ENTRY;
+
+/// One field against `questions` numbers: every walk is short, however many entries the store has. The list stands in both orders.
+fn one_field(order: u32, questions: u32) -> Survey {
+    Survey { n: 1, order, list: (0..questions).flat_map(|steps| [1, 32 * steps]).collect() }
 }
 
 fn open(comparison: &mut Comparison, survey: &Survey, room: usize) -> Vec<u32> {
     let length = HEADING + survey.list.len() + 3 * room;
-    comparison.call(&Call::Open { n: survey.n, list: survey.list.clone() }, &vec![1; length]).store
+    comparison.call(&survey.open(), &vec![1; length]).store
 }
 
 fn expect(comparison: &mut Comparison, what: &'static str, call: &Call, store: &[u32], number: u32) -> Vec<u32> {
@@ -23,33 +26,54 @@ fn expect(comparison: &mut Comparison, what: &'static str, call: &Call, store: &
 }
 
 pub fn limits(comparison: &mut Comparison, random: &mut Random, cases: u64) {
-    questions(comparison);
+    for order in ORDERS {
+        questions(comparison, order);
+    }
+    short_stores(comparison);
     rows(comparison, random);
-    for _ in 0..1 + cases / 500 {
-        entries(comparison, random);
+    for i in 0..2 + cases as usize / 500 {
+        entries(comparison, random, ORDERS[i % ORDERS.len()]);
     }
     written_rows(comparison);
 }
 
-fn questions(comparison: &mut Comparison) {
+fn questions(comparison: &mut Comparison, order: u32) {
     for (questions, number) in [(0, 0), (1, 0), (MOST_QUESTIONS as u32, 0), (MOST_QUESTIONS as u32 + 1, 13)] {
-        let Survey { n, list } = one_field(questions);
-        expect(comparison, "questions", &Call::Open { n, list }, &[9; 100], number);
+        expect(comparison, "questions", &one_field(order, questions).open(), &[9; 100], number);
     }
-    for n in [16, 17] {
-        let number = if n == 16 { 0 } else { 11 };
-        expect(comparison, "fields", &Call::Open { n, list: vec![1, 0] }, &[9; 10], number);
+    for (n, number) in [(16, 0), (17, 11)] {
+        expect(comparison, "fields", &Call::Open { n, order, list: vec![1, 0] }, &[9; 10], number);
     }
-    for (length, number) in [(0, 21), (2, 21), (3, 0)] {
-        expect(comparison, "an empty list", &Call::Open { n: 0, list: vec![] }, &vec![9; length], number);
+    for (length, number) in [(0, 21), (1, 21), (2, 21), (3, 21), (4, 0)] {
+        expect(comparison, "an empty list", &Call::Open { n: 0, order, list: vec![] }, &vec![9; length], number);
     }
-    for length in 0..3 {
-        expect(comparison, "a store without a heading", &Call::Verdict(0), &vec![0; length], 22);
+}
+
+/// Every operation on slices of 0 to 4 words. Four words are the shortest store, and the last of them is an order.
+fn short_stores(comparison: &mut Comparison) {
+    let calls = [
+        Call::Build { rule: vec![1, 0, 0, 0] },
+        Call::Negate(0),
+        Call::Join(0, 1),
+        Call::Choose(1, 0, 1),
+        Call::Verdict(0),
+        Call::Example { handle: 1, sheet: vec![] },
+        Call::Read { handle: 1, sheet: vec![] },
+        Call::WriteBack { handle: 0, rule: vec![9; 4] },
+    ];
+    let orders = [(0, 0), (1, 0), (2, 22), (3, 22), (256, 22), (1 << 31, 22), (u32::MAX, 22)];
+    for call in calls {
+        for length in 0..HEADING {
+            expect(comparison, "a store without a heading", &call, &[0; HEADING][..length], 22);
+        }
+        for (order, number) in orders {
+            expect(comparison, "the shortest store", &call, &[0, 0, 0, order], number);
+        }
     }
 }
 
 fn rows(comparison: &mut Comparison, random: &mut Random) {
-    let survey = one_field(20);
+    let survey = one_field(FIELDS_FIRST, 20);
     let store = open(comparison, &survey, 100);
     for (rows, number) in [(1, 0), (MOST_ROWS - 1, 0), (MOST_ROWS, 0), (MOST_ROWS + 1, 33)] {
         let rule = generate::rule_of(random, &survey, rows);
@@ -60,8 +84,8 @@ fn rows(comparison: &mut Comparison, random: &mut Random) {
 }
 
 /// A store with all entries but one, then with all, then one more wanted.
-fn entries(comparison: &mut Comparison, random: &mut Random) {
-    let survey = one_field(20);
+fn entries(comparison: &mut Comparison, random: &mut Random, order: u32) {
+    let survey = one_field(order, 20);
     let first = |survey: &Survey| Call::Build { rule: vec![2, survey.list[0], survey.list[1], 0] };
     // Neither the entry that the rule needs is there, nor the one that its negation needs.
     let entry_of_first = [1, 1, 0];
@@ -72,22 +96,23 @@ fn entries(comparison: &mut Comparison, random: &mut Random) {
 
     // Nothing new is needed: a full store is no hindrance.
     expect(comparison, "an entry already there", &first(&survey), &full, 0);
-    let newest = MOST_ENTRIES as u32 - 1 + FIRST_ENTRY;
-    expect(comparison, "the newest handle", &Call::Verdict(newest), &full, 0);
-    expect(comparison, "a handle beyond it", &Call::Verdict(newest + 1), &full, 41);
+    expect(comparison, "the newest handle", &Call::Verdict(NEWEST), &full, 0);
+    expect(comparison, "a handle beyond it", &Call::Verdict(NEWEST + 1), &full, 41);
+    more_words(comparison, random, &survey, &full);
+}
 
-    // More words give no more room.
-    let mut longer = full.clone();
+/// More words than 4,096 entries take give no more room, and have to be zero.
+fn more_words(comparison: &mut Comparison, random: &mut Random, survey: &Survey, full: &[u32]) {
+    let mut longer = full.to_vec();
     longer.extend([0; 30]);
-    for store in [&full, &longer] {
-        let missing = Call::Negate(newest);
-        expect(comparison, "one entry more", &missing, store, 51);
+    for store in [full, &longer] {
+        expect(comparison, "one entry more", &Call::Negate(NEWEST), store, 51);
         for _ in 0..5 {
-            let rule = generate::rule(random, &survey);
+            let rule = generate::rule(random, survey);
             comparison.call(&Call::Build { rule }, store);
-            let a = random.below(newest + 1);
-            comparison.call(&Call::Join(a, random.below(newest + 1)), store);
-            comparison.call(&Call::Choose(a, random.below(newest + 1), random.below(newest + 1)), store);
+            let a = random.below(NEWEST + 1);
+            comparison.call(&Call::Join(a, random.below(NEWEST + 1)), store);
+            comparison.call(&Call::Choose(a, random.below(NEWEST + 1), random.below(NEWEST + 1)), store);
             comparison.call(&Call::Example { handle: a, sheet: vec![0] }, store);
             comparison.call(&Call::Read { handle: a, sheet: vec![random.below(22) as u16] }, store);
             comparison.call(&Call::WriteBack { handle: a, rule: vec![0; 1024] }, store);
@@ -133,7 +158,7 @@ fn store_with_diagram(entries: usize) -> (Vec<u32>, u32) {
         made.extend(row.chunks(2).map(|pair| [question, pair[0], pair[1]]));
         row = (first..made.len()).map(handle_of).collect();
     }
-    (store_of(&one_field(20), &made), row[0])
+    (store_of(&one_field(FIELDS_FIRST, 20), &made), row[0])
 }
 
 /// Many questions about few fields, rules of many rows: diagrams of hundreds of entries, in stores that become full.

@@ -1,16 +1,17 @@
-//! Lists of calls on one store, with a ledger beside it.
+//! Lists of calls on one store, with a ledger beside it; and on two stores, one for each order.
 
-use compare::calls::Call;
-use compare::comparison::{bounds_are_affordable, counting_is_affordable, questions_of, Comparison};
-use compare::generate::{self, Gaps, Size, Survey, FAR};
+use compare::calls::{Call, Outcome};
+use compare::comparison::{bounds_are_affordable, counting_is_affordable, occasion, questions_of, Comparison};
+use compare::generate::{self, Gaps, Size, Survey, FAR, MIDDLE, SMALL, TALL, WIDE};
 use compare::ledger::Ledger;
 use compare::random::Random;
-use independent::{largest_count, possible_by_bounds, possible_by_counting, HEADING, MOST_FIELDS, MOST_STEPS};
+use independent::{largest_count, possible_by_bounds, possible_by_counting, Answer};
+use independent::{FIELDS_FIRST, HEADING, MOST_FIELDS, MOST_STEPS, ORDERS};
 
 /// That difference bounds and trying all counts find the same combinations of answers.
 pub fn possible_answers(comparison: &mut Comparison, random: &mut Random, cases: u64) {
     for _ in 0..cases {
-        let size = *random.pick(&[generate::SMALL, generate::SMALL, generate::MIDDLE, generate::TALL]);
+        let size = *random.pick(&[SMALL, SMALL, MIDDLE, TALL]);
         let survey = generate::survey(random, size);
         let questions = questions_of(&survey.list);
         if counting_is_affordable(survey.n, &questions) && bounds_are_affordable(survey.n, &questions) {
@@ -36,8 +37,7 @@ pub fn lists_of_calls(comparison: &mut Comparison, random: &mut Random, cases: u
         let size = *random.pick(&generate::SIZES);
         let survey = generate::survey(random, size);
         let length = generate::store_length(random, &survey);
-        let open = Call::Open { n: survey.n, list: survey.list.clone() };
-        let mut store = comparison.call(&open, &vec![u32::MAX; length]).store;
+        let mut store = comparison.call(&survey.open(), &vec![u32::MAX; length]).store;
         let mut ledger = Ledger::new(&survey);
         let mut known = vec![0, 1];
         let most_calls = if random.one_in(8) { 80 } else { 25 };
@@ -47,28 +47,49 @@ pub fn lists_of_calls(comparison: &mut Comparison, random: &mut Random, cases: u
             if let Some(ledger) = &mut ledger {
                 ledger.enter(&call, &store, outcome.answer);
             }
-            store = outcome.store.clone();
-            let accepted = outcome.answer.number == 0;
-            match call {
-                Call::Build { .. } | Call::Negate(_) | Call::Join(..) | Call::Choose(..) if accepted => {
-                    known.push(outcome.answer.result);
-                }
-                Call::Example { .. } if accepted => test_bound(comparison, &survey, &outcome.sheet),
-                Call::WriteBack { handle, .. } if accepted && known.contains(&handle) => {
-                    let rule = outcome.words[..4 * outcome.answer.result as usize].to_vec();
-                    let again = comparison.call(&Call::Build { rule }, &store);
-                    let same = again.answer.number == 0 && again.answer.result == handle && again.store == store;
-                    comparison.test("a handle written back and built again", same, || format!("{handle} in {store:?}"));
-                }
-                _ => {}
+            store.clone_from(&outcome.store);
+            if outcome.answer.number == 0 {
+                after_acceptance(comparison, &survey, &mut known, &call, &outcome);
             }
         }
         if let Some(ledger) = ledger {
-            let law = ledger.check_law();
-            for _ in 0..*law.as_ref().unwrap_or(&1) {
-                comparison.test("two pairs of a ledger", law.is_ok(), || format!("{law:?} {survey:?} {store:?}"));
-            }
+            test_law(comparison, &survey, &ledger, &store);
         }
+    }
+}
+
+/// Keeps a returned handle, tests an example's counts, and builds what was written back.
+fn after_acceptance(
+    comparison: &mut Comparison,
+    survey: &Survey,
+    known: &mut Vec<u32>,
+    call: &Call,
+    Outcome { answer, store, sheet, words, .. }: &Outcome,
+) {
+    match call {
+        Call::Build { .. } | Call::Negate(_) | Call::Join(..) | Call::Choose(..) => known.push(answer.result),
+        Call::Example { .. } => test_bound(comparison, survey, sheet),
+        Call::WriteBack { handle, .. } if known.contains(handle) => {
+            let rule = words[..4 * answer.result as usize].to_vec();
+            let again = comparison.call(&Call::Build { rule }, store);
+            let same = again.answer.number == 0 && again.answer.result == *handle && again.store == *store;
+            comparison.test("a handle written back and built again", same, || format!("{handle} in {store:?}"));
+        }
+        _ => {}
+    }
+}
+
+fn test_law(comparison: &mut Comparison, survey: &Survey, ledger: &Ledger, store: &[u32]) {
+    let law = ledger.check_law();
+    for _ in 0..*law.as_ref().unwrap_or(&1) {
+        comparison.test("two pairs of a ledger", law.is_ok(), || format!("{law:?} {survey:?} {store:?}"));
+    }
+    // The order matters where entries were made.
+    if survey.is_in_one_order() && store[2] > 0 {
+        comparison.meet(match survey.order {
+            FIELDS_FIRST => occasion::CALLS_IN_ORDER_0,
+            _ => occasion::CALLS_IN_ORDER_1,
+        });
     }
 }
 
@@ -91,7 +112,10 @@ fn call(random: &mut Random, survey: &Survey, used: u32, known: &[u32]) -> Call 
             let length = if random.one_in(3) { random.below(60) } else { 1024 };
             Call::WriteBack { handle, rule: vec![5; length as usize] }
         }
-        _ => Call::Open { n: 17, list: survey.list.clone() },
+        _ => {
+            let (n, order) = *random.pick(&[(17, survey.order), (survey.n, 2)]);
+            Call::Open { n, order, list: survey.list.clone() }
+        }
     }
 }
 
@@ -107,8 +131,8 @@ pub fn long_paths(comparison: &mut Comparison, random: &mut Random, cases: u64) 
     for _ in 0..cases {
         let gaps = *random.pick(&[Gaps::up_to(1), Gaps::up_to(3), FAR.gaps, Gaps::up_to(MOST_STEPS)]);
         let survey = generate::survey(random, Size { fields: (1, MOST_FIELDS), gaps, most_questions: 20 });
-        let open = Call::Open { n: survey.n, list: survey.list.clone() };
-        let mut store = comparison.call(&open, &vec![0; HEADING + survey.list.len() + 3 * 1_000]).store;
+        let length = HEADING + survey.list.len() + 3 * 1_000;
+        let mut store = comparison.call(&survey.open(), &vec![0; length]).store;
         let mut handles = Vec::new();
         for _ in 0..3 {
             let outcome = comparison.call(&Call::Build { rule: generate::long_path_rule(random, &survey) }, &store);
@@ -132,6 +156,72 @@ pub fn long_paths(comparison: &mut Comparison, random: &mut Random, cases: u64) 
             comparison.call(&Call::Read { handle, sheet: example.sheet }, &store);
         }
     }
+}
+
+/// The same questions listed in each order, and the same calls on both stores: rules share a handle in one store exactly if they do in
+/// the other, and have the same verdict and example in both.
+pub fn both_orders(comparison: &mut Comparison, random: &mut Random, cases: u64) {
+    for _ in 0..cases / 4 {
+        let size = *random.pick(&[SMALL, MIDDLE, FAR, WIDE]);
+        let survey = generate::survey(random, size);
+        let calls: Vec<Call> = (2..10).map(|rules| call_on_rules(random, &survey, rules)).collect();
+        let [first, second] = ORDERS.map(|order| rules_found(comparison, &survey.in_order(order), &calls));
+        for (i, rules) in first.iter().zip(&second).enumerate() {
+            let describe = || format!("rules {rules:?} of {survey:?} after {calls:?}");
+            let alike = (rules.0.verdict, &rules.0.example) == (rules.1.verdict, &rules.1.example);
+            comparison.test("verdict and example in both orders", alike, describe);
+            let shared = |found: &[Found], j: usize| found[i].handle == found[j].handle;
+            let shared_alike = (0..i).all(|j| shared(&first, j) == shared(&second, j));
+            comparison.test("handles shared in both orders", shared_alike, describe);
+        }
+    }
+}
+
+/// A call on rules by their numbers in place of handles. There are so many rules; those with the numbers 0 and 1 are never and always.
+fn call_on_rules(random: &mut Random, survey: &Survey, rules: u32) -> Call {
+    let [a, b, c] = [0; 3].map(|_| random.below(rules));
+    match random.below(6) {
+        0 => Call::Negate(a),
+        1 => Call::Join(a, b),
+        2 => Call::Choose(a, b, c),
+        _ => Call::Build { rule: generate::rule(random, survey) },
+    }
+}
+
+/// What a store says of a rule.
+#[derive(Debug)]
+struct Found {
+    handle: u32,
+    verdict: Answer,
+    example: (Answer, Vec<u16>),
+}
+
+/// Makes calls on rules in a new store, each giving the next rule, until one is refused. Gives what the store says of all rules.
+fn rules_found(comparison: &mut Comparison, survey: &Survey, calls: &[Call]) -> Vec<Found> {
+    let length = HEADING + survey.list.len() + 3 * 2_000;
+    let mut store = comparison.call(&survey.open(), &vec![0; length]).store;
+    let mut handles = vec![0, 1];
+    for call in calls {
+        let handle = |rule: u32| handles[rule as usize];
+        let call = match *call {
+            Call::Negate(a) => Call::Negate(handle(a)),
+            Call::Join(a, b) => Call::Join(handle(a), handle(b)),
+            Call::Choose(a, b, c) => Call::Choose(handle(a), handle(b), handle(c)),
+            _ => call.clone(),
+        };
+        let outcome = comparison.call(&call, &store);
+        if outcome.answer.number != 0 {
+            break;
+        }
+        handles.push(outcome.answer.result);
+        store = outcome.store;
+    }
+    let found = |handle: u32| {
+        let verdict = comparison.call(&Call::Verdict(handle), &store).answer;
+        let example = comparison.call(&Call::Example { handle, sheet: vec![0; survey.n as usize] }, &store);
+        Found { handle, verdict, example: (example.answer, example.sheet) }
+    };
+    handles.into_iter().map(found).collect()
 }
 
 /// A formula over letters.
@@ -210,11 +300,10 @@ impl Formula {
 /// Formulas that are alike by Boolean algebra, with built rules as letters, give equal handles.
 pub fn laws(comparison: &mut Comparison, random: &mut Random, cases: u64) {
     for _ in 0..cases / 4 {
-        let size = *random.pick(&[generate::SMALL, generate::MIDDLE, FAR, generate::TALL]);
+        let size = *random.pick(&[SMALL, MIDDLE, FAR, TALL]);
         let survey = generate::survey(random, size);
         let length = HEADING + survey.list.len() + 3 * 2_000;
-        let open = Call::Open { n: survey.n, list: survey.list.clone() };
-        let mut store = comparison.call(&open, &vec![0; length]).store;
+        let mut store = comparison.call(&survey.open(), &vec![0; length]).store;
         let letters = [0; LETTERS].map(|_| {
             let outcome = comparison.call(&Call::Build { rule: generate::rule(random, &survey) }, &store);
             store.clone_from(&outcome.store);

@@ -28,7 +28,7 @@ fn main() -> ExitCode {
 
     let mut comparison = Comparison::default();
     type Suite = fn(&mut Comparison, &mut Random, u64);
-    let suites: [(&str, Suite); 15] = [
+    let suites: [(&str, Suite); 16] = [
         ("the documents' cases", cases::document_cases),
         ("simplify", hostile::simplify),
         ("the two ways to find possible answers", lists::possible_answers),
@@ -36,6 +36,7 @@ fn main() -> ExitCode {
         ("lists of calls", lists::lists_of_calls),
         ("long paths", lists::long_paths),
         ("laws of Boolean algebra", lists::laws),
+        ("the same calls in both orders", lists::both_orders),
         ("sound stores written by hand", hostile::sound_stores),
         ("damaged stores", hostile::damaged_stores),
         ("limits", limits::limits),
