@@ -5,7 +5,7 @@ use mathlib.Core.List.{List, [], _∷_, _++_}
 use lib.IntN.{pos, negsuc}
 use lib.ListN.{replicate}
 use Rattle.operations.specs.ThreeEqual.{three-equal, last-equal, outer-equal, not-outer, after-case-6}
-use Rattle.cases.specs.Case.{simplify, open-with, build, negate, join, read, write-back, verdict, example, check, ask-list-gap, simplified, answered, checked, gap-is, Case}
+use Rattle.cases.specs.Case.{simplify, open-with, build, negate, join, choose, read, write-back, verdict, example, check, ask-list-gap, simplified, answered, checked, gap-is, Case}
 
 -- S3(1) = S1(2) simplifies to 2 = S2(1): words 2, 65, gap 2.
 abbrev pub case-1 : Case
@@ -181,29 +181,29 @@ case-11 =
 
 -- ---- document 02 (ix): the two orders
 -- n = 3, S(3) = 1 and 3 = 2, in the order in which each list stands
-abbrev right-field-first : List ℕ
-right-field-first = 35 ∷ 1 ∷ 3 ∷ 2 ∷ []
+abbrev fields-first-list : List ℕ
+fields-first-list = 35 ∷ 1 ∷ 3 ∷ 2 ∷ []
 
-abbrev left-steps-first : List ℕ
-left-steps-first = 3 ∷ 2 ∷ 35 ∷ 1 ∷ []
+abbrev left-first-list : List ℕ
+left-first-list = 3 ∷ 2 ∷ 35 ∷ 1 ∷ []
 
 -- Each list opens with its own order, and is 16 with the other.
 abbrev pub orders-opened : Case
 orders-opened =
-    let s : List ℕ = 3 ∷ 2 ∷ 0 ∷ 0 ∷ right-field-first in
+    let s : List ℕ = 3 ∷ 2 ∷ 0 ∷ 0 ∷ fields-first-list in
     record {
       start = replicate 8 7;
       calls =
-          open-with 3 1 right-field-first ∷ open-with 3 0 right-field-first
-          ∷ open-with 3 0 left-steps-first ∷ open-with 3 1 left-steps-first ∷ [];
+          open-with 3 1 fields-first-list ∷ open-with 3 0 fields-first-list
+          ∷ open-with 3 0 left-first-list ∷ open-with 3 1 left-first-list ∷ [];
       expected =
-          answered 16 0 (replicate 8 7) right-field-first ∷ answered 0 0 s right-field-first
-          ∷ answered 16 0 s left-steps-first ∷ answered 0 0 (3 ∷ 2 ∷ 0 ∷ 1 ∷ left-steps-first) left-steps-first ∷ [];
+          answered 16 0 (replicate 8 7) fields-first-list ∷ answered 0 0 s fields-first-list
+          ∷ answered 16 0 s left-first-list ∷ answered 0 0 (3 ∷ 2 ∷ 0 ∷ 1 ∷ left-first-list) left-first-list ∷ [];
     }
 
--- n = 4. Between neighbours of these lists each of the four numbers decides somewhere where the next one, or the rest, would say the opposite: 2 = 1,
--- S(2) = 1, 3 = 1, 3 = S(1), then by the right field S(3) = 1, 3 = 2, 3 = S(2), by the left steps 3 = 2, 3 = S(2), S(3) = 1, and then 4 = 1. No question
--- stands twice in either order.
+-- n = 4. Between neighbours of these lists each of the first three numbers decides somewhere where the next one would say the opposite, and the fourth
+-- decides somewhere: 2 = 1, S(2) = 1, 3 = 1, 3 = S(1), then in order 0 S(3) = 1, 3 = 2, 3 = S(2), in order 1 3 = 2, 3 = S(2), S(3) = 1, and then 4 = 1. No
+-- question stands twice in either order.
 abbrev pub orders-compared : Case
 orders-compared =
     let first : List ℕ = 2 ∷ 1 ∷ 34 ∷ 1 ∷ 3 ∷ 1 ∷ 3 ∷ 33 ∷ 35 ∷ 1 ∷ 3 ∷ 2 ∷ 3 ∷ 34 ∷ 4 ∷ 1 ∷ [] in
@@ -222,7 +222,7 @@ orders-compared =
 -- 17 fields, another order, one word: 11, then 18, then 12. Another order comes before every fault of the list and of the store's length.
 abbrev pub orders-refused : Case
 orders-refused =
-    let s : List ℕ = 7 ∷ 7 ∷ 7 ∷ [] in
+    let s : List ℕ = replicate 3 7 in
     record {
       start = s;
       calls =
@@ -231,6 +231,24 @@ orders-refused =
       expected =
           answered 11 0 s (1 ∷ []) ∷ answered 18 0 s (1 ∷ []) ∷ answered 12 0 s (1 ∷ []) ∷ answered 18 0 s [] ∷ answered 18 0 s (replicate 42 9)
           ∷ answered 21 0 s [] ∷ [];
+    }
+
+-- The rest of opening's numbers, in the older order, n = 3, a store of three words: 43 words, 42 words, field 9; 2 = 3 after S(3) = 1, 2 = 3 before field 9, and
+-- 3 = 2 after S(3) = 1 and before field 9, since the questions are tested one after the other; and 21 for a list without a fault.
+abbrev pub openings-refused : Case
+openings-refused =
+    let s : List ℕ = replicate 3 7 in
+    let turned-second : List ℕ = 35 ∷ 1 ∷ 2 ∷ 3 ∷ [] in
+    let turned-first : List ℕ = 2 ∷ 3 ∷ 9 ∷ 9 ∷ [] in
+    let below : List ℕ = 35 ∷ 1 ∷ 3 ∷ 2 ∷ 9 ∷ 9 ∷ [] in
+    record {
+      start = s;
+      calls =
+          open-with 3 1 (replicate 43 9) ∷ open-with 3 1 (replicate 42 9) ∷ open-with 3 1 (9 ∷ 9 ∷ []) ∷ open-with 3 1 turned-second ∷ open-with 3 1 turned-first
+          ∷ open-with 3 1 below ∷ open-with 3 1 left-first-list ∷ [];
+      expected =
+          answered 12 0 s (replicate 43 9) ∷ answered 13 0 s (replicate 42 9) ∷ answered 14 0 s (9 ∷ 9 ∷ []) ∷ answered 15 0 s turned-second ∷ answered 15 0 s turned-first
+          ∷ answered 16 0 s below ∷ answered 21 0 s left-first-list ∷ [];
     }
 
 -- Store of 14 words. 3 = 2 and not S(3) = 1: handle 3, its entries, and example 0 0 0. Opened again, 3 = 2 and S(3) = 1: handle 3, sometimes, and
@@ -253,20 +271,35 @@ rules-in-order order list entries =
     }
 
 -- Order 0: S(3) = 1 is asked first, and 3 = 2 by no. Order 1: 3 = 2 first, and S(3) = 1 by yes.
-abbrev pub rules-by-right-field : Case
-rules-by-right-field = rules-in-order 0 right-field-first (2 ∷ 1 ∷ 0 ∷ 1 ∷ 0 ∷ 2 ∷ [])
+abbrev pub rules-fields-first : Case
+rules-fields-first = rules-in-order 0 fields-first-list (2 ∷ 1 ∷ 0 ∷ 1 ∷ 0 ∷ 2 ∷ [])
 
-abbrev pub rules-by-left-steps : Case
-rules-by-left-steps = rules-in-order 1 left-steps-first (2 ∷ 0 ∷ 1 ∷ 1 ∷ 2 ∷ 0 ∷ [])
+abbrev pub rules-left-first : Case
+rules-left-first = rules-in-order 1 left-first-list (2 ∷ 0 ∷ 1 ∷ 1 ∷ 2 ∷ 0 ∷ [])
+
+-- Case 6's words with word 3 set to 2: every later call is 22.
+abbrev pub unknown-order-refused : Case
+unknown-order-refused =
+    let s = after-case-6 2 in
+    let out : List ℕ = replicate 3 7 in
+    record {
+      start = s;
+      calls = build last-equal ∷ negate 5 ∷ join 5 5 ∷ choose 5 1 0 ∷ read 5 out ∷ write-back 5 out ∷ verdict 5 ∷ example 5 out ∷ [];
+      expected =
+          answered 22 0 s last-equal ∷ answered 22 0 s [] ∷ answered 22 0 s [] ∷ answered 22 0 s [] ∷ answered 22 0 s out ∷ answered 22 0 s out
+          ∷ answered 22 0 s [] ∷ answered 22 0 s out ∷ [];
+    }
 
 -- A list is sound in the order that word 3 names, and not in the other; one that stands in both is sound under either word. Another word 3 is not sound,
--- and neither are fewer than four words, nor case 6's words without its order. An empty list stands in both orders.
+-- and neither are fewer than four words, nor the words of cases 6 and 11 without an order: there word 3 is 2, and 1 before a list that begins with 0 = 1. An
+-- empty list stands in both orders.
 abbrev pub orders-in-a-store : List Case
 orders-in-a-store =
-    words-tried 0 (3 ∷ 2 ∷ 0 ∷ 0 ∷ right-field-first) ∷ words-tried 22 (3 ∷ 2 ∷ 0 ∷ 1 ∷ right-field-first)
-    ∷ words-tried 0 (3 ∷ 2 ∷ 0 ∷ 1 ∷ left-steps-first) ∷ words-tried 22 (3 ∷ 2 ∷ 0 ∷ 0 ∷ left-steps-first)
+    words-tried 0 (3 ∷ 2 ∷ 0 ∷ 0 ∷ fields-first-list) ∷ words-tried 22 (3 ∷ 2 ∷ 0 ∷ 1 ∷ fields-first-list)
+    ∷ words-tried 0 (3 ∷ 2 ∷ 0 ∷ 1 ∷ left-first-list) ∷ words-tried 22 (3 ∷ 2 ∷ 0 ∷ 0 ∷ left-first-list)
     ∷ words-tried 0 (after-case-6 0) ∷ words-tried 0 (after-case-6 1) ∷ words-tried 22 (after-case-6 2) ∷ words-tried 22 (after-case-6 4294967295)
     ∷ words-tried 22 (3 ∷ 3 ∷ 4 ∷ 2 ∷ 1 ∷ 3 ∷ 1 ∷ 3 ∷ 2 ∷ 2 ∷ 1 ∷ 0 ∷ 3 ∷ 1 ∷ 0 ∷ 2 ∷ 0 ∷ 3 ∷ 1 ∷ 2 ∷ 4 ∷ [])
+    ∷ words-tried 22 (1 ∷ 2 ∷ 2 ∷ 1 ∷ 0 ∷ 1 ∷ 32 ∷ 2 ∷ 0 ∷ 1 ∷ 1 ∷ 0 ∷ 2 ∷ [])
     ∷ words-tried 22 [] ∷ words-tried 22 (replicate 3 0) ∷ words-tried 0 (replicate 4 0) ∷ words-tried 0 (0 ∷ 0 ∷ 0 ∷ 1 ∷ [])
     ∷ words-tried 22 (0 ∷ 0 ∷ 0 ∷ 2 ∷ []) ∷ []
 
@@ -418,4 +451,4 @@ cases =
     ∷ steps-simplified ∷ steps-built ∷ steps-in-a-store ∷ steps-beyond-in-a-store
     ∷ check-shapes ∷ check-examples ∷ check-rule-8 ∷ check-rules-3-to-7 ∷ check-order ∷ check-terms ∷ check-handles
     ∷ check-differing-entries ∷ check-limits
-    ∷ orders-opened ∷ orders-compared ∷ orders-refused ∷ rules-by-right-field ∷ rules-by-left-steps ∷ orders-in-a-store
+    ∷ orders-opened ∷ orders-compared ∷ orders-refused ∷ openings-refused ∷ rules-fields-first ∷ rules-left-first ∷ unknown-order-refused ∷ orders-in-a-store

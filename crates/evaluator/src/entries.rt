@@ -1,14 +1,15 @@
 // The entries of a store, counted from 0: their words, and which of them has given words.
 ghost use Prim.Native.Nat.{_<_};
+use crate::layout::HEADING;
 use crate::layout::questions;
 use crate::layout::used;
 use crate::words::word_at;
 
 // Where the three words of an entry begin.
 pub fn entry_place(store: &[u32], entry: u32) -> usize
-    ensures { λ r. ⌜ (2 < r) × (r < 100000000000) ⌝ }
+    ensures { λ r. ⌜ r < 100000000000 ⌝ }
 {
-    3 + 2 * (questions(store) as usize) + 3 * (entry as usize)
+    HEADING + 2 * (questions(store) as usize) + 3 * (entry as usize)
 }
 
 // An entry's question number, and its two handles.

@@ -1,4 +1,5 @@
 // Which refusal a list of questions asks for.
+ghost use Prim.Native.Nat.{_<_};
 use crate::answer::refuse;
 use crate::layout::field;
 use crate::layout::steps;
@@ -19,28 +20,45 @@ pub fn is_question(left: u32, right: u32) -> bool {
     (field(left) > field(right)) & one_sided
 }
 
-// Left field, right field, left steps and right steps as the digits of one number, so that questions are compared in that order.
-fn order_of(left: u32, right: u32) -> u32 {
-    let fields = left % 32 * 32 + right % 32;
-    (fields * STEP_COUNTS + left / 32 % STEP_COUNTS) * STEP_COUNTS + right / 32 % STEP_COUNTS
+// The orders are 0, document 01's, and 1, that of the older books.
+pub fn bad_order(order: u32) -> bool {
+    order > 1
 }
 
-// The refusal of a question, given where the one before stands in the order. A question's left field is above 0, so the first is above 0.
-fn question_fault(mut fault: u32, n: u32, left: u32, right: u32, before: u32) -> u32 {
-    fault = refuse(fault, bad_term(n, left) | bad_term(n, right), 14);
-    fault = refuse(fault, !is_question(left, right), 15);
-    refuse(fault, order_of(left, right) <= before, 16)
+// The two numbers of a question that the orders compare in different turn, as the digits of one number: order 0 compares the right field before the
+// left steps, and order 1 after them.
+fn middle_of(order: u32, left: u32, right: u32) -> u32
+    ensures { λ r. ⌜ r < 32768 ⌝ }
+{
+    match order {
+        0 => right % 32 * STEP_COUNTS + left / 32 % STEP_COUNTS,
+        _ => left / 32 % STEP_COUNTS * 32 + right % 32,
+    }
 }
 
-// The first refusal among the questions of a list.
-pub fn questions_fault(n: u32, list: &[u32]) -> u32 {
+// Where a question stands in an order: left field, the two numbers between, and right steps as the digits of one number.
+fn place_of(order: u32, left: u32, right: u32) -> u32 {
+    let middle = middle_of(order, left, right);
+    (left % 32 * (32 * STEP_COUNTS) + middle) * STEP_COUNTS + right / 32 % STEP_COUNTS
+}
+
+// The refusal of a question by itself.
+fn question_fault(n: u32, left: u32, right: u32) -> u32 {
+    let fault = refuse(0, bad_term(n, left) | bad_term(n, right), 14);
+    refuse(fault, !is_question(left, right), 15)
+}
+
+// The first refusal among the questions of a list that is to be in an order. A question's left field is above 0, so the first place is above 0.
+pub fn questions_fault(n: u32, order: u32, list: &[u32]) -> u32 {
     let mut fault = 0;
     let mut before = 0;
     for i in 0..list.len() / 2 {
         let left = word_at(list, 2 * i);
         let right = word_at(list, 2 * i + 1);
-        fault = question_fault(fault, n, left, right, before);
-        before = order_of(left, right);
+        let place = place_of(order, left, right);
+        fault = refuse(fault, true, question_fault(n, left, right));
+        fault = refuse(fault, place <= before, 16);
+        before = place;
     }
     fault
 }

@@ -1,4 +1,4 @@
-// Whether words are a sound store, part by part as document 01 says it, and whether they have a handle.
+// Whether words are a sound store, part by part as documents 01 and 02 say it, and whether they have a handle.
 use crate::answer::refuse;
 use crate::entries::asked_by;
 use crate::entries::entry_place;
@@ -7,19 +7,23 @@ use crate::entries::has_room;
 use crate::entries::no_of;
 use crate::entries::question_of;
 use crate::entries::yes_of;
+use crate::layout::HEADING;
 use crate::layout::fields;
+use crate::layout::order;
 use crate::layout::questions;
 use crate::layout::used;
+use crate::lists::bad_order;
 use crate::lists::questions_fault;
 use crate::words::all_are;
 use crate::words::part;
 
-// The number of fields, the number of questions, the length, and the list.
+// The number of fields, the number of questions, the order, the length, and the list.
 fn heading_sound(store: &[u32]) -> bool {
     let start = entry_place(store, 0);
     let n = fields(store);
     let sizes = (n <= 16) & (questions(store) <= 20) & (start <= store.len());
-    sizes & (questions_fault(n, part(store, 3, start)) == 0)
+    let list = part(store, HEADING, start);
+    sizes & !bad_order(order(store)) & (questions_fault(n, order(store), list) == 0)
 }
 
 // A handle of an entry is smaller than its own, and the entry that it names has a larger question number.

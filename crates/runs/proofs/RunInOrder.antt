@@ -3,7 +3,7 @@
 -- in a sound store they say of the rule.
 use Prim.Native.Nat.{ℕ, _+_}
 use mathlib.Core.Path.{_≡_, refl, sym, ap, _∙_}
-use mathlib.Core.Logic.{inl, inr}
+use mathlib.Core.Logic.{_⊎_, inl, inr}
 use mathlib.Core.Bool.{Bool, true}
 use mathlib.Core.List.{List}
 use borrow.Author.Tests.{lt-ltb, ltb-true, eq-eqb}
@@ -51,17 +51,17 @@ says-alike (verdicts.Refused f) e d = d
 module _ (limits : Limits) (order : ListOrder) (n : ℕ) (list s : List ℕ) (e : opening limits n (order-number order) list (length s) ≡ Accepted)
     (calls : List Call) where
   -- the books after the opening, and after the calls
-  abbrev opened : Books
-  opened = opened-books n (order-number order) list (length s)
+  abbrev books₀ : Books
+  books₀ = opened-books n (order-number order) list (length s)
 
   abbrev books : Books
-  books = run limits opened calls
+  books = run limits books₀ calls
 
   kept : Kept limits books
   kept = run-kept limits n (order-number order) list s e calls
 
-  later : Later limits (opened .words) (books .words)
-  later = run-later opened (opened-kept limits n (order-number order) list s e .sound) calls
+  later : Later limits (books₀ .words) (books .words)
+  later = run-later books₀ (opened-kept limits n (order-number order) list s e .sound) calls
 
   is : sound limits (books .words) ≡ true
   is = sound-from limits (books .words) (kept .sound)
@@ -69,7 +69,7 @@ module _ (limits : Limits) (order : ListOrder) (n : ℕ) (list s : List ℕ) (e 
   pub run-in-order : InOrder limits order n books
   run-in-order = record {
     sound = kept .sound;
-    names = later .same-order ∙ opened-order n (order-number order) list (length s);
+    order-is = later .same-order ∙ opened-order n (order-number order) list (length s);
     fields = later .same-fields ∙ opened-fields n (order-number order) list (length s);
     law = kept-law kept;
     means = λ p i. stands-means (kept .sound) (kept .each p i);
@@ -83,6 +83,20 @@ module _ (limits : Limits) (order : ListOrder) (n : ℕ) (list s : List ℕ) (e 
   pub example-in-order : (handle : ℕ) (out : List ℕ) → ExampleAnswers limits (books .words) handle out (example limits (books .words) handle out)
   example-in-order = example-answers limits (books .words) is
 
+  -- with n words lent, a handle of the store's gets a sheet or 52
+  pub example-answered : (handle : ℕ) (out : List ℕ) → is-handle (books .words) handle ≡ true → length out ≡ n
+      → (example limits (books .words) handle out .answer ≡ Written) ⊎ (example limits (books .words) handle out .answer ≡ Refused Nothing)
+  unfolding example
+  example-answered handle out u l = go (best-sheet (books .words) handle) refl
+    where
+      answer-is : example limits (books .words) handle out ≡ given (best-sheet (books .words) handle) out
+      answer-is = rw (is, u, eq-eqb (length out) (field-count (books .words)) (l ∙ sym (run-in-order .fields)))
+
+      go : (b : Best) → best-sheet (books .words) handle ≡ b
+          → (example limits (books .words) handle out .answer ≡ Written) ⊎ (example limits (books .words) handle out .answer ≡ Refused Nothing)
+      go none d = inr (ap (λ o. o .answer) (answer-is ∙ ap (λ b. given b out) d))
+      go (some x) d = inl (ap (λ o. o .answer) (answer-is ∙ ap (λ b. given b out) d))
+
   -- ---- a rule of the ledger's
   module _ (p : Pair) (i : In p (books .ledger)) where
     has-handle : is-handle (books .words) (p .handle) ≡ true
@@ -91,28 +105,22 @@ module _ (limits : Limits) (order : ListOrder) (n : ℕ) (list s : List ℕ) (e 
     pub verdict-of-rule : VerdictSays (verdict limits (books .words) (p .handle)) (p .rule)
     verdict-of-rule = says-alike (verdict limits (books .words) (p .handle)) (run-in-order .means p i) (verdict-in-order (p .handle) has-handle)
 
-    module _ (out : List ℕ) (l : length out ≡ n) where
-      answer-is : example limits (books .words) (p .handle) out ≡ given (best-sheet (books .words) (p .handle)) out
-      unfolding example
-      answer-is = rw (is, has-handle, eq-eqb (length out) (field-count (books .words)) (l ∙ sym (run-in-order .fields)))
-
-      pub example-of-rule : RuleExample n (p .rule) (example limits (books .words) (p .handle) out)
-      example-of-rule = go (best-sheet (books .words) (p .handle)) refl
-        where
-          go : (b : Best) → best-sheet (books .words) (p .handle) ≡ b → RuleExample n (p .rule) (example limits (books .words) (p .handle) out)
-          go none d =
-              let none-given : example limits (books .words) (p .handle) out .answer ≡ Refused Nothing = ap (λ o. o .answer) (answer-is ∙ ap (λ b. given b out) d) in
-              inr (none-given, λ v. sym (run-in-order .means p i v) ∙ example-in-order (p .handle) out .none .0 none-given .nothing v)
-          go (some x) d =
-              let written : example limits (books .words) (p .handle) out .answer ≡ Written = ap (λ o. o .answer) (answer-is ∙ ap (λ b. given b out) d) in
-              let sheet = example limits (books .words) (p .handle) out .words in
-              let f = example-in-order (p .handle) out .written written in
+    pub example-of-rule : (out : List ℕ) → length out ≡ n → RuleExample n (p .rule) (example limits (books .words) (p .handle) out)
+    example-of-rule out l =
+        let sheet = example limits (books .words) (p .handle) out .words in
+        let means = run-in-order .means p i in
+        let answers = example-in-order (p .handle) out in
+        elim (example-answered (p .handle) out has-handle l) [
+          | inl written ↦
+              let f = answers .written written in
               let r = reads-true limits (books .words) (p .handle) sheet (f .satisfies) in
               inl (
                 written,
                 record {
                   right-length = r .0 ∙ run-in-order .fields;
-                  satisfies = sym (run-in-order .means p i (sheet-counts sheet)) ∙ r .1;
-                  first = λ other k before. sym (run-in-order .means p i (sheet-counts other)) ∙ f .first other (k ∙ sym (run-in-order .fields)) before;
+                  satisfies = sym (means (sheet-counts sheet)) ∙ r .1;
+                  first = λ other k before. sym (means (sheet-counts other)) ∙ f .first other (k ∙ sym (run-in-order .fields)) before;
                 },
               )
+          | inr none-given ↦ inr (none-given, λ v. sym (means v) ∙ answers .none .0 none-given .nothing v)
+        ]

@@ -13,8 +13,8 @@ use Rattle.terms.specs.Order.{order-number}
 
 pub record InOrder (limits : Limits) (order : ListOrder) (n : ℕ) (b : Books) : Type 0 where
   pub sound : Sound limits (b .words)
-  -- the store names the order still in which it was opened, and has n fields
-  pub names : store-order (b .words) ≡ order-number order
+  -- the store still names the order in which it was opened, and has n fields
+  pub order-is : store-order (b .words) ≡ order-number order
   pub fields : field-count (b .words) ≡ n
   -- equal handles exactly if the rules agree
   pub law : HandleLaw (b .ledger)

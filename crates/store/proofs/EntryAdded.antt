@@ -124,7 +124,7 @@ module _ {limits : Limits} {s : List ℕ} (snd : Sound limits s) (space : used s
         questions-in = omega (arith, snd .questions-in, questions-agree agree);
         list-in = omega (arith, snd .list-in, questions-agree agree, long);
         order = snd .order;
-        order-kept = orders-agree agree ∙ snd .order-kept;
+        order-is = orders-agree agree ∙ snd .order-is;
         list-kept = rw (list-agrees agree (snd .list-in) (omega (arith, snd .list-in, long)), fields-agree agree, questions-agree agree) (snd .list-kept);
         used-in = omega (arith, used-added s e next-in, room-agrees limits agree long);
         entry-kept = by-entry s e next-in (MayStand s′)

@@ -8,9 +8,7 @@ use native.Mathlib.Omega.{arith}
 use lib.Dec.{eqb, ltb}
 use lib.ListN.{length}
 use Rattle.terms.specs.declared.order.ListOrder.{ListOrder}
-use Rattle.terms.specs.declared.order.NamedOrder.{NamedOrder}
-use Rattle.terms.specs.declared.order.NamedOrder.the-variants.{Known, Unknown}
-use Rattle.terms.specs.Order.{order-of, order-number, order-named, if-known}
+use Rattle.terms.specs.Order.{order-of, order-number}
 use Rattle.terms.specs.declared.limits.Limits.{Limits}
 use Rattle.store.specs.declared.answer.Opened.{Opened}
 use Rattle.store.specs.declared.answer.Opened.the-variants.{Accepted, Refused}
@@ -20,12 +18,12 @@ use Rattle.terms.specs.Limits.{terms-within}
 use Rattle.store.specs.Open.{list-fault, opening-in, opening}
 use Rattle.store.specs.Opened.{is-accepted, and-then}
 use Rattle.terms.proofs.Cases.{by-eq, by-lt}
-use Rattle.terms.proofs.QuestionOrder.{named-number}
+use Rattle.terms.proofs.OrderNumbers.{known-says}
 
 pub record Accepts (limits : Limits) (n order : ℕ) (list : List ℕ) (words : ℕ) : Type 0 where
   pub fields : n ≤ limits .terms .field .0
   pub known : ListOrder
-  pub named : order ≡ order-number known
+  pub order-is : order ≡ order-number known
   pub even : 2 * (length list / 2) ≡ length list
   pub few : length list / 2 ≤ limits .questions
   pub faultless : list-fault (order-of known) (terms-within limits n) list (length list / 2) 0 ≡ Accepted
@@ -49,16 +47,6 @@ module _ (x y : ℕ) (a b : Opened) (r : is-accepted a ≡ false) where
   past-eq : cond (eqb x y) a b ≡ Accepted → (x ≢ y) × (b ≡ Accepted)
   past-eq = by-eq (λ t. cond t a b ≡ Accepted → (x ≢ y) × (b ≡ Accepted)) x y (λ _ e. absurd (no r e)) (λ h e. (h, e))
 
--- an unknown order is refused
-past-known : (order : ℕ) (next : ListOrder → Opened) → if-known (order-named order) next (Refused UnknownOrder) ≡ Accepted
-    → (known : ListOrder) × (order ≡ order-number known) × (next known ≡ Accepted)
-past-known order next = go (order-named order) refl
-  where
-    go : (o : NamedOrder) → order-named order ≡ o → if-known o next (Refused UnknownOrder) ≡ Accepted
-        → (known : ListOrder) × (order ≡ order-number known) × (next known ≡ Accepted)
-    go (Known known) d e = (known, named-number order known d, e)
-    go Unknown d e = absurd (no refl e)
-
 halves : (m : ℕ) → m % 2 ≢ 1 → 2 * (m / 2) ≡ m
 halves m h = omega arith
 
@@ -66,12 +54,12 @@ pub accepts : (limits : Limits) (n order : ℕ) (list : List ℕ) (words : ℕ) 
 unfolding opening opening-in
 accepts limits n order list words e =
     let fields = past-lt _ _ (Refused TooManyFields) _ refl e in
-    let known = past-known order (λ (known : ListOrder). opening-in known limits n list words) (fields .1) in
+    let known = known-says order (λ (known : ListOrder). opening-in known limits n list words) (Refused UnknownOrder) Accepted (no refl) (fields .1) in
     let even = past-eq _ _ (Refused OddList) _ refl (known .2) in
     let few = past-lt _ _ (Refused TooManyQuestions) _ refl (even .1) in
     let parts = both _ _ (few .1) in
     let fits = past-lt _ _ (Refused TooShort) _ refl (parts .1) in
-    record { fields = fields .0; known = known .0; named = known .1; even = halves (length list) (even .0); few = few .0; faultless = parts .0; fits = fits .0 }
+    record { fields = fields .0; known = known .0; order-is = known .1; even = halves (length list) (even .0); few = few .0; faultless = parts .0; fits = fits .0 }
 
 -- an accepted opening has room for what is written, and its number of questions fits a word
 module _ (limits : Limits) (n order : ℕ) (list : List ℕ) (words : ℕ) {o : Opened} (e : o ≡ opening limits n order list words) (a : o ≡ Accepted) where

@@ -27,7 +27,7 @@ module _ (limits : Limits) (n order : ℕ) (list s : List ℕ) where
   opened-heading a =
       let words : ℕ = length s in
       let list-kept : list-sound limits (opened-words n order list words) ≡ true =
-      list-from limits (opened-words n order list words) (a .known) (opened-order n order list words ∙ a .named)
+      list-from limits (opened-words n order list words) (a .known) (opened-order n order list words ∙ a .order-is)
       (rw (opened-list n order list words (a .even), opened-fields n order list words, opened-questions n order list words) (a .faultless)) in
       rw (
         list-kept,

@@ -22,11 +22,9 @@ use Rattle.store.specs.Sound.{all-below}
 use Rattle.store.specs.SoundParts.{EntryKept, Sound}
 use Rattle.store.proofs.Tests.{passes, all-below-says, all-below-from, all-zero-says, all-zero-from}
 use Rattle.terms.specs.declared.order.ListOrder.{ListOrder}
-use Rattle.terms.specs.declared.order.NamedOrder.{NamedOrder}
-use Rattle.terms.specs.declared.order.NamedOrder.the-variants.{Known, Unknown}
-use Rattle.terms.specs.Order.{order-of, order-number, order-named}
+use Rattle.terms.specs.Order.{order-of, order-number}
 use Rattle.terms.proofs.Cases.{by-test, by-lt}
-use Rattle.terms.proofs.QuestionOrder.{number-names, named-number}
+use Rattle.terms.proofs.OrderNumbers.{number-names, known-says}
 
 accepted-says : (o : Opened) → is-accepted o ≡ true → o ≡ Accepted
 accepted-says Accepted e = refl
@@ -102,19 +100,16 @@ module _ (s : List ℕ) where
 
 module _ (limits : Limits) (s : List ℕ) where
   -- the answer about the list in an order
-  abbrev list-in : ListOrder → Opened
-  list-in order = list-fault (order-of order) (terms-within limits (field-count s)) (list-words s) (question-count s) 0
+  abbrev list-answer : ListOrder → Opened
+  list-answer order = list-fault (order-of order) (terms-within limits (field-count s)) (list-words s) (question-count s) 0
 
-  list-says : spec.list-sound limits s ≡ true → (order : ListOrder) × (store-order s ≡ order-number order) × (list-in order ≡ Accepted)
+  list-says : spec.list-sound limits s ≡ true → (order : ListOrder) × (store-order s ≡ order-number order) × (list-answer order ≡ Accepted)
   unfolding spec.list-sound
-  list-says = go (order-named (store-order s)) refl
-    where
-      go : (o : NamedOrder) → order-named (store-order s) ≡ o → spec.list-sound limits s ≡ true
-          → (order : ListOrder) × (store-order s ≡ order-number order) × (list-in order ≡ Accepted)
-      go (Known order) e t = (order, named-number (store-order s) order e, accepted-says (list-in order) (rw e at t))
-      go Unknown e t = absurd (false≢true (rw e at t))
+  list-says t =
+      let known = known-says (store-order s) (λ order. is-accepted (list-answer order)) _ true false≢true t in
+      (known .0, known .1, accepted-says (list-answer (known .0)) (known .2))
 
-  pub list-from : (order : ListOrder) → store-order s ≡ order-number order → list-in order ≡ Accepted → spec.list-sound limits s ≡ true
+  pub list-from : (order : ListOrder) → store-order s ≡ order-number order → list-answer order ≡ Accepted → spec.list-sound limits s ≡ true
   unfolding spec.list-sound
   list-from order e k = rw (e, number-names order, k)
 
@@ -130,7 +125,7 @@ module _ (limits : Limits) (s : List ℕ) where
         questions-in = leb-true _ _ (passes (leb (question-count s) (limits .questions)) (λ f. simp (f, and-false) at t));
         list-in = leb-true _ _ (passes (leb (entries-start s) (length s)) (λ f. simp (f, and-false) at t));
         order = list .0;
-        order-kept = list .1;
+        order-is = list .1;
         list-kept = list .2;
         used-in = leb-true _ _ (passes (leb (used s) (room limits s)) (λ f. simp (f, and-false) at t));
         entry-kept = λ i h. entry-says s i (all-below-says (spec.entry-sound s) (used s) entries i h);
@@ -144,7 +139,7 @@ module _ (limits : Limits) (s : List ℕ) where
     le-leb (field-count s) (limits .terms .field .0) (k .fields-in),
     le-leb (question-count s) (limits .questions) (k .questions-in),
     le-leb (entries-start s) (length s) (k .list-in),
-    list-from (k .order) (k .order-kept) (k .list-kept),
+    list-from (k .order) (k .order-is) (k .list-kept),
     le-leb (used s) (room limits s) (k .used-in),
     all-below-from (spec.entry-sound s) (used s) (λ i h. entry-from s i (k .entry-kept i h)),
     differ-from s (used s) (k .entries-differ),

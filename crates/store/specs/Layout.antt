@@ -1,4 +1,4 @@
--- The words of a store (document 01, "The store").
+-- The words of a store (document 01, "The store"; document 02, ix).
 use Prim.Native.Nat.{ℕ, _+_, _-_, _*_, _/_, min}
 use mathlib.Core.Bool.{Bool}
 use mathlib.Core.List.{List, _++_}

@@ -31,7 +31,7 @@ pub record Sound (limits : Limits) (s : List ℕ) : Type 0 where
   pub questions-in : question-count s ≤ limits .questions
   pub list-in : entries-start s ≤ length s
   pub order : ListOrder
-  pub order-kept : store-order s ≡ order-number order
+  pub order-is : store-order s ≡ order-number order
   pub list-kept : list-fault (order-of order) (terms-within limits (field-count s)) (list-words s) (question-count s) 0 ≡ Accepted
   pub used-in : used s ≤ room limits s
   pub entry-kept : (i : ℕ) → i < used s → EntryKept s i

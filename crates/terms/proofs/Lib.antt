@@ -10,6 +10,7 @@ pub mod GapRange
 pub mod Numbers
 pub mod OneSpelling
 pub mod QuestionOrder
+pub mod OrderNumbers
 pub mod OrderWays
 pub mod QuestionWays
 pub mod TermWords

@@ -1,9 +1,9 @@
 -- Comparing lists of numbers one after the other is a strict total order on lists of one length, so an order of questions is one if the
--- numbers that it compares tell all questions apart. The two orders in which a list can stand have two numbers.
+-- numbers that it compares tell all questions apart.
 use Prim.Native.Nat.{ℕ, _<_}
-use mathlib.Core.Path.{_≡_, refl, sym, ap, ap₂, _∙_}
+use mathlib.Core.Path.{_≡_, refl, sym, ap₂, _∙_}
 use mathlib.Core.Logic.{_≢_, _⊎_, inl, inr}
-use mathlib.Core.Bool.{Bool, true, false, false≢true, cond, _&&_, _||_}
+use mathlib.Core.Bool.{Bool, true, false, false≢true, _&&_, _||_}
 use mathlib.Core.List.{List, [], _∷_}
 use native.Mathlib.Omega.{arith}
 use borrow.Author.Tests.{lt-ltb, le-ltb, eq-eqb, ne-eqb}
@@ -11,10 +11,8 @@ use lib.Dec.{eqb}
 use lib.ListN.{length}
 use Rattle.terms.specs.declared.order.ListOrder.{ListOrder}
 use Rattle.terms.specs.declared.order.ListOrder.the-variants.{FieldsFirst, LeftFirst}
-use Rattle.terms.specs.declared.order.NamedOrder.{NamedOrder}
-use Rattle.terms.specs.declared.order.NamedOrder.the-variants.{Known, Unknown}
 use Rattle.terms.specs.declared.term.Equation.{Equation}
-use Rattle.terms.specs.Order.{lex, Order, fields-first, left-first, before, StrictTotal, order-of, order-number, order-named}
+use Rattle.terms.specs.Order.{lex, Order, fields-first, left-first, before, StrictTotal, order-of}
 use Rattle.terms.proofs.Cases.{by-eq, by-lt}
 use Rattle.terms.proofs.Numbers.{equations-equal}
 
@@ -86,28 +84,3 @@ left-first-strict-total = strict-total left-first (λ p q. refl) (λ p q e. equa
 pub orders-strict-total : (order : ListOrder) → StrictTotal (before (order-of order))
 orders-strict-total FieldsFirst = fields-first-strict-total
 orders-strict-total LeftFirst = left-first-strict-total
-
--- ---- the numbers of the orders
--- Each order's number names it,
-pub number-names : (order : ListOrder) → order-named (order-number order) ≡ Known order
-unfolding order-named
-number-names FieldsFirst = refl
-number-names LeftFirst = refl
-
--- a number names no order but the one that has it,
-pub named-number : (k : ℕ) (order : ListOrder) → order-named k ≡ Known order → k ≡ order-number order
-unfolding order-named
-named-number k order =
-    by-eq (λ t. cond t (Known FieldsFirst) (cond (eqb k 1) (Known LeftFirst) Unknown) ≡ Known order → k ≡ order-number order) k 0
-    (λ z e. z ∙ ap number-of e)
-    (λ _. by-eq (λ t. cond t (Known LeftFirst) Unknown ≡ Known order → k ≡ order-number order) k 1
-    (λ o e. o ∙ ap number-of e) (λ _ e. absurd (let z : _≡_ {A = ℕ} 0 1 = cc in omega arith)))
-  where
-    number-of : NamedOrder → ℕ
-    number-of (Known o) = order-number o
-    number-of Unknown = 0
-
--- and a number that no order has names none.
-pub unknown-number : (k : ℕ) → ((order : ListOrder) → k ≢ order-number order) → order-named k ≡ Unknown
-unfolding order-named
-unknown-number k other = simp (ne-eqb k 0 (other FieldsFirst), ne-eqb k 1 (other LeftFirst))

@@ -22,5 +22,5 @@ HasWords guard.Always = Unit {0}
 HasWords (guard.Question e) = (word-of (e .left) < 2 ^ 32) × (word-of (e .right) < 2 ^ 32)
 
 -- compared numbers as a list
-abbrev pub numbers : Compared → List ℕ
-numbers c = c .first ∷ c .second ∷ c .third ∷ c .fourth ∷ []
+abbrev pub compared-numbers : Compared → List ℕ
+compared-numbers c = c .first ∷ c .second ∷ c .third ∷ c .fourth ∷ []

@@ -1,4 +1,4 @@
-// Terms, equations of two terms, and simplifying them.
+// Terms, equations of two terms, simplifying them, and the orders of questions.
 mod limits;
 mod order;
 mod question;

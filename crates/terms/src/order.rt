@@ -1,6 +1,6 @@
 // The orders of questions, and comparing questions in them.
 ghost use mathlib.Core.Path.{_≡_};
-ghost use Rattle.terms.specs.Needs.{numbers};
+ghost use Rattle.terms.specs.Needs.{compared-numbers};
 ghost use Rattle.terms.specs.Order as spec;
 use crate::term::Equation;
 
@@ -37,7 +37,7 @@ pub fn order_named(word: u32) -> NamedOrder
 
 // The numbers that an order compares.
 fn numbers_of(order: ListOrder, e: Equation) -> Compared
-    ensures { λ r. ⌜ numbers r ≡ spec.order-of order e ⌝ }
+    ensures { λ r. ⌜ compared-numbers r ≡ spec.order-of order e ⌝ }
 {
     match order {
         ListOrder::FieldsFirst => Compared {
@@ -57,7 +57,7 @@ fn numbers_of(order: ListOrder, e: Equation) -> Compared
 
 // Whether numbers come before others: the first that differ decide.
 fn come_before(p: Compared, q: Compared) -> bool
-    ensures { λ r. ⌜ r ≡ spec.lex (numbers p) (numbers q) ⌝ }
+    ensures { λ r. ⌜ r ≡ spec.lex (compared-numbers p) (compared-numbers q) ⌝ }
 {
     if p.first != q.first {
         return p.first < q.first;

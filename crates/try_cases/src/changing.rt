@@ -31,21 +31,26 @@ fn kind_of(name: u8) -> u32 {
     }
 }
 
+// The handles are the first numbers, and for opening the number of fields and the order.
 fn call_of(name: u8, numbers: Numbers) -> Row {
-    let handles = numbers.words;
+    let words = numbers.words;
     Row {
         kind: kind_of(name),
-        a: handles[0],
-        b: handles[1],
-        c: handles[2],
+        a: words[0],
+        b: words[1],
+        c: words[2],
     }
 }
 
-// A list stands after the number of fields, and a rule table by itself.
+// A list stands after the number of fields and the order; a rule table stands by itself.
+fn list_of(given: &[u32]) -> &[u32] {
+    part(given, 2, given.len())
+}
+
 fn perform(store: &mut [u32], call: Row, given: &[u32]) -> Answer {
     let kind = call.kind;
     match kind {
-        0 => sheet_open(call.a, part(given, 1, given.len()), store),
+        0 => sheet_open(call.a, call.b, list_of(given), store),
         2 => sheet_build(store, given),
         3 => sheet_negate(store, call.a),
         4 => sheet_join(store, call.a, call.b),
@@ -58,7 +63,7 @@ fn expect(store: &[u32], call: Row, given: &[u32], after: &mut [u32]) -> evaluat
         return expect_added(store, call, given, after);
     }
     evaluator::Answer {
-        number: expect_opened(call.a, part(given, 1, given.len()), store, after),
+        number: expect_opened(call.a, call.b, list_of(given), store, after),
         result: 0,
     }
 }

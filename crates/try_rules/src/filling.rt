@@ -1,12 +1,13 @@
 // Hand-made sound stores over the questions 1 = 0 to 1 = S19(0), with many entries.
 ghost use Prim.Native.Nat.{_<_};
+use evaluator::HEADING;
 use evaluator::asked_by;
 use evaluator::put;
 use evaluator::put_entry;
 use evaluator::write_opened;
 
 // The words of a store with 20 questions and room for 4,096 entries, and twenty more, so that the limit and not the length binds.
-pub const FULL_WORDS: usize = 12351;
+pub const FULL_WORDS: usize = HEADING + 40 + 3 * 4096 + 20;
 
 // The questions 1 = 0, 1 = S(0) and so on, 20 of them.
 fn steps_list() -> [u32; 40] {
@@ -17,9 +18,9 @@ fn steps_list() -> [u32; 40] {
     list
 }
 
-// The heading and the list, with so many entries used.
-fn write_heading(store: &mut [u32], used: u32) {
-    write_opened(1, &steps_list(), store);
+// The heading and the list, which is in both orders, with so many entries used.
+fn write_heading(store: &mut [u32], order: u32, used: u32) {
+    write_opened(1, order, &steps_list(), store);
     put(store, 2, used);
 }
 
@@ -60,10 +61,10 @@ fn write_entries(store: &mut [u32], entries: u32) {
     }
 }
 
-// A store with so many of these entries.
-pub fn filled(entries: u32) -> [u32; FULL_WORDS] {
+// A store of an order with so many of these entries.
+pub fn filled(order: u32, entries: u32) -> [u32; FULL_WORDS] {
     let mut store = [0u32; FULL_WORDS];
-    write_heading(&mut store, entries);
+    write_heading(&mut store, order, entries);
     write_entries(&mut store, entries);
     store
 }
@@ -85,11 +86,14 @@ fn write_tree(store: &mut [u32]) {
     }
 }
 
+// The words of a store with 20 questions and room for 129 entries.
+const TREE_WORDS: usize = HEADING + 40 + 3 * 129;
+
 // A store with a tree over the 57 entries of question 18 that follow the first fourteen. The tree's root is handle 128 and reaches 127 entries;
 // handle 129 is over the root and never.
-pub fn tree() -> [u32; 430] {
-    let mut store = [0u32; 430];
-    write_heading(&mut store, 128);
+pub fn tree(order: u32) -> [u32; TREE_WORDS] {
+    let mut store = [0u32; TREE_WORDS];
+    write_heading(&mut store, order, 128);
     write_entries(&mut store, 71);
     write_tree(&mut store);
     write_over(&mut store, 127, 128, 0);

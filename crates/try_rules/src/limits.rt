@@ -36,25 +36,25 @@ fn add_to_full(mut run: Run, store: &mut [u32]) -> Run {
 }
 
 // 4,096 entries: only the last of them is added.
-fn try_full(mut run: Run, store: &mut [u32]) -> Run {
+fn try_full(mut run: Run, order: u32, store: &mut [u32]) -> Run {
     run = fill_last(run, store);
     run = add_to_full(run, store);
     run = agree(run, used(store) == 4096);
-    agree(run, same_words(store, &filled(4096)))
+    agree(run, same_words(store, &filled(order, 4096)))
 }
 
 // An entry more makes no sound store, however long it is.
-fn try_overfull(mut run: Run) -> Run {
-    let store = filled(4097);
+fn try_overfull(mut run: Run, order: u32) -> Run {
+    let store = filled(order, 4097);
     run = agree(run, !is_sound(&store));
     refuse_all(run, &store)
 }
 
-pub fn try_entries(mut run: Run) -> Run {
-    let mut store = filled(4095);
+fn try_entries(mut run: Run, order: u32) -> Run {
+    let mut store = filled(order, 4095);
     run = agree(run, is_sound(&store));
-    run = try_full(run, &mut store);
-    try_overfull(run)
+    run = try_full(run, order, &mut store);
+    try_overfull(run, order)
 }
 
 // A handle written back into so many words, and the rows that are to come out.
@@ -67,11 +67,20 @@ fn write_expecting(mut run: Run, store: &[u32], handle: u32, length: usize, rows
 }
 
 // 127 entries written back are 256 rows; 128 are too many.
-pub fn try_written(mut run: Run) -> Run {
-    let array = tree();
+fn try_written(mut run: Run, order: u32) -> Run {
+    let array = tree(order);
     let store: &[u32] = &array;
     run = agree(run, is_sound(store));
     run = write_expecting(run, store, 128, 1024, 256);
     run = write_expecting(run, store, 128, 1023, 0);
     write_expecting(run, store, 129, 1024, 0)
+}
+
+// In both orders.
+pub fn try_limits(mut run: Run) -> Run {
+    for order in 0..2u32 {
+        run = try_entries(run, order);
+        run = try_written(run, order);
+    }
+    run
 }

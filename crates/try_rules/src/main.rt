@@ -2,25 +2,28 @@
 mod asking;
 mod calls;
 mod chance;
+mod changed;
 mod filling;
 mod hostile;
 mod ledger;
 mod limits;
 mod lists;
 mod opening;
+mod orders;
 mod printing;
 mod rounds;
 mod rules;
 mod run;
 mod simplifying;
+mod spoiling;
 mod writing;
 
 use crate::hostile::try_all_broken;
 use crate::hostile::try_all_cut;
-use crate::limits::try_entries;
-use crate::limits::try_written;
+use crate::limits::try_limits;
 use crate::printing::print_part;
 use crate::printing::print_refusals;
+use crate::printing::print_stores;
 use crate::rounds::list_rounds;
 use crate::rounds::store_rounds;
 use crate::run::Run;
@@ -31,15 +34,14 @@ use crate::simplifying::try_equations;
 fn run_generated(mut run: Run) -> Run {
     run = print_part(try_equations(run), b"equations");
     run = print_part(list_rounds(run), b"lists");
-    print_part(store_rounds(run), b"calls")
+    print_stores(print_part(store_rounds(run), b"calls"))
 }
 
 // What is made by hand.
 fn run_made(mut run: Run) -> Run {
     run = try_all_broken(run);
     run = print_part(try_all_cut(run), b"hostile stores");
-    run = try_entries(run);
-    print_part(try_written(run), b"limits")
+    print_part(try_limits(run), b"limits")
 }
 
 fn main() {

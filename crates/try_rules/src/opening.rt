@@ -8,10 +8,10 @@ use evaluator::part;
 use evaluator::same_words;
 use sheet::sheet_open;
 
-pub fn open_and_compare(mut run: Run, n: u32, list: &[u32], store: &mut [u32]) -> Run {
+fn open_and_compare(mut run: Run, n: u32, order: u32, list: &[u32], store: &mut [u32]) -> Run {
     let mut words = [0u32; 512];
-    let expected = expect_opened(n, list, store, &mut words);
-    let found = sheet_open(n, list, store);
+    let expected = expect_opened(n, order, list, store, &mut words);
+    let found = sheet_open(n, order, list, store);
     run = expect_number(run, found.number, expected);
     agree(run, same_words(store, &words))
 }
@@ -19,5 +19,6 @@ pub fn open_and_compare(mut run: Run, n: u32, list: &[u32], store: &mut [u32]) -
 // A generated list.
 pub fn open_list(run: Run, list: List, store: &mut [u32]) -> Run {
     let words = list.words;
-    open_and_compare(run, list.n, part(&words, 0, list.length as usize), store)
+    let given = part(&words, 0, list.length as usize);
+    open_and_compare(run, list.n, list.order, given, store)
 }

@@ -1,4 +1,4 @@
-// What a run came to: the comparisons of each part, and at the end the refusals that were met.
+// What a run came to: the comparisons of each part, the generated stores, and at the end the refusals that were met.
 use crate::run::Run;
 use libc::STDOUT_FILENO;
 
@@ -17,6 +17,26 @@ pub fn print_part(mut run: Run, name: &[u8]) -> Run {
     print_numbers(b": compared ", run.compared, b", differ ", run.differ);
     run.compared = 0;
     run.differ = 0;
+    run
+}
+
+fn print_order(order: u32, stores: u32, in_one: u32) {
+    io::write_all(STDOUT_FILENO, b"stores in order ");
+    io::print_decimal(STDOUT_FILENO, order as u64);
+    print_numbers(
+        b": ",
+        stores as u64,
+        b", with a list in no other order: ",
+        in_one as u64,
+    );
+}
+
+// The generated stores of each order.
+pub fn print_stores(run: Run) -> Run {
+    let stores = run.stores;
+    let in_one = run.in_one;
+    print_order(0, stores[0], in_one[0]);
+    print_order(1, stores[1], in_one[1]);
     run
 }
 

@@ -4,25 +4,27 @@ use crate::asking::ask_handles;
 use crate::calls::try_calls;
 use crate::chance::Thrown;
 use crate::chance::throw;
-use crate::hostile::try_changed;
+use crate::changed::try_changed;
+use crate::changed::try_orders;
 use crate::ledger::compare_pairs;
 use crate::ledger::open_ledger;
 use crate::lists::List;
-use crate::lists::spoil;
 use crate::lists::throw_list;
 use crate::opening::open_list;
 use crate::run::Run;
 use crate::run::agree;
+use crate::spoiling::spoil;
 use crate::writing::write_handles;
+use evaluator::HEADING;
 use evaluator::is_sound;
 
-// A list, good or spoiled, and a store of any length.
+// A list, good or spoiled once or twice, and a store of any length.
 fn list_round(mut run: Run) -> Run {
     let mut store = [7u32; 64];
     let length = throw(run.seed, 60);
     let end = length.number as usize;
     let far = throw(length.seed, 2);
-    let list = spoil(throw_list(far.seed, far.number == 0));
+    let list = spoil(spoil(throw_list(far.seed, far.number == 0)));
     run.seed = list.seed;
     open_list(run, list, &mut store[0..end])
 }
@@ -40,7 +42,7 @@ fn throw_length(list: List) -> Thrown
 {
     let more = throw(list.seed, 90);
     let roomy = throw(more.seed, 3);
-    let mut length = 3 + list.length % 64 + more.number;
+    let mut length = HEADING as u32 + list.length % 64 + more.number;
     if roomy.number == 0 {
         length = length + 350;
     }
@@ -50,13 +52,14 @@ fn throw_length(list: List) -> Thrown
     }
 }
 
-// What is asked of a store after its calls, and once more when a word is changed.
+// What is asked of a store after its calls, and once more when a word is changed, also the one that names its order.
 fn ask_store(mut run: Run, store: &[u32]) -> Run {
     run = compare_pairs(run, store);
     run = agree(run, is_sound(store));
     run = ask_handles(run, store);
     run = write_handles(run, store);
-    try_changed(run, store)
+    run = try_changed(run, store);
+    try_orders(run, store)
 }
 
 // The calls on a store with a list.
@@ -78,7 +81,7 @@ fn store_round(mut run: Run) -> Run {
 }
 
 pub fn store_rounds(mut run: Run) -> Run {
-    for i in 0..300u32 {
+    for i in 0..400u32 {
         run = store_round(run);
     }
     run

@@ -5,6 +5,9 @@ pub struct Run {
     pub differ: u64,
     // how often an answer's number was met, at its place
     pub met: [u32; 64],
+    // how many stores of each order were generated, and how many of them have a list that is in no other order
+    pub stores: [u32; 2],
+    pub in_one: [u32; 2],
     // the handles of the ledger, and how many there are
     pub handles: [u32; 32],
     pub entered: u32,
@@ -16,6 +19,8 @@ pub fn begun() -> Run {
         compared: 0,
         differ: 0,
         met: [0; 64],
+        stores: [0; 2],
+        in_one: [0; 2],
         handles: [0; 32],
         entered: 0,
     }
@@ -31,6 +36,14 @@ pub fn count(mut run: Run, compared: u32, differ: u32) -> Run {
 // One comparison.
 pub fn agree(run: Run, same: bool) -> Run {
     count(run, 1, !same as u32)
+}
+
+// One generated store of an order.
+pub fn count_store(mut run: Run, order: u32, in_one: bool) -> Run {
+    let place = (order % 2) as usize;
+    run.stores[place] = run.stores[place] % 1000000000 + 1;
+    run.in_one[place] = run.in_one[place] % 1000000000 + in_one as u32 % 2;
+    run
 }
 
 // A number that was found against the one that was expected.

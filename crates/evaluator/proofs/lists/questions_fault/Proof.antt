@@ -6,10 +6,10 @@ use Rattle.evaluator.proofs.lists.questions_fault.Statement.{statement}
 use Rattle.evaluator.proofs.lists.questions_fault.Tie as tie
 
 abbrev Inv-loop : tie.InvT-loop
-Inv-loop n list fault₀ before₀ i₀ i-end fault before i = (i ≤ i-end) × (i-end ≤ length list)
+Inv-loop n order list fault₀ before₀ i₀ i-end fault before i = (i ≤ i-end) × (i-end ≤ length list)
 
 abbrev μ-loop : tie.MeasureT-loop
-μ-loop n list fault₀ before₀ i₀ i-end fault before i = i-end - i
+μ-loop n order list fault₀ before₀ i₀ i-end fault before i = i-end - i
 
 loop-holds : tie.Need-loop-holds Inv-loop μ-loop
 loop-holds c = search needs
@@ -29,11 +29,17 @@ add-word-at c = search needs
 word-at-requires-2 : tie.Need-word-at-requires-2 Inv-loop μ-loop
 word-at-requires-2 c κs = search needs
 
+place-of-requires : tie.Need-place-of-requires Inv-loop μ-loop
+place-of-requires c κs = search needs
+
 question-fault-requires : tie.Need-question-fault-requires Inv-loop μ-loop
 question-fault-requires c κs = search needs
 
-order-of-requires : tie.Need-order-of-requires Inv-loop μ-loop
-order-of-requires c κs = search needs
+refuse-requires : tie.Need-refuse-requires Inv-loop μ-loop
+refuse-requires c κs = search needs
+
+refuse-requires-2 : tie.Need-refuse-requires-2 Inv-loop μ-loop
+refuse-requires-2 c κs = search needs
 
 add-i : tie.Need-add-i Inv-loop μ-loop
 add-i c = search needs
@@ -59,8 +65,10 @@ questions-fault-spec =
     mul-word-at-2
     add-word-at
     word-at-requires-2
+    place-of-requires
     question-fault-requires
-    order-of-requires
+    refuse-requires
+    refuse-requires-2
     add-i
     loop-less
     loop-again

@@ -5,10 +5,10 @@ use Rattle.evaluator.proofs.opening.opened.Statement.{statement}
 use Rattle.evaluator.proofs.opening.opened.Tie as tie
 
 abbrev Inv-loop : tie.InvT-loop
-Inv-loop n list words₀ i₀ words i = i ≤ 40
+Inv-loop n order list words₀ i₀ words i = i ≤ 40
 
 abbrev μ-loop : tie.MeasureT-loop
-μ-loop n list words₀ i₀ words i = 40 - i
+μ-loop n order list words₀ i₀ words i = 40 - i
 
 array-write-words : tie.Need-array-write-words Inv-loop μ-loop
 array-write-words c = search needs
@@ -18,6 +18,9 @@ cast-words c = search needs
 
 array-write-words-2 : tie.Need-array-write-words-2 Inv-loop μ-loop
 array-write-words-2 c = search needs
+
+array-write-words-3 : tie.Need-array-write-words-3 Inv-loop μ-loop
+array-write-words-3 c = search needs
 
 loop-holds : tie.Need-loop-holds Inv-loop μ-loop
 loop-holds c = search needs
@@ -31,8 +34,8 @@ add-words c = search needs
 mul-words : tie.Need-mul-words Inv-loop μ-loop
 mul-words c = search needs
 
-array-write-words-3 : tie.Need-array-write-words-3 Inv-loop μ-loop
-array-write-words-3 c = search needs
+array-write-words-4 : tie.Need-array-write-words-4 Inv-loop μ-loop
+array-write-words-4 c = search needs
 
 add-i : tie.Need-add-i Inv-loop μ-loop
 add-i c = search needs
@@ -55,11 +58,12 @@ opened-spec =
     array-write-words
     cast-words
     array-write-words-2
+    array-write-words-3
     loop-holds
     word-at-requires
     add-words
     mul-words
-    array-write-words-3
+    array-write-words-4
     add-i
     loop-less
     loop-again

@@ -5,10 +5,10 @@ use Rattle.try_rules.proofs.hostile.broken.Statement.{statement}
 use Rattle.try_rules.proofs.hostile.broken.Tie as tie
 
 abbrev Inv-loop : tie.InvT-loop
-Inv-loop way store₀ i₀ store i = i ≤ 28
+Inv-loop way store₀ i₀ store i = i ≤ 42
 
 abbrev μ-loop : tie.MeasureT-loop
-μ-loop way store₀ i₀ store i = 28 - i
+μ-loop way store₀ i₀ store i = 42 - i
 
 loop-holds : tie.Need-loop-holds Inv-loop μ-loop
 loop-holds c = search needs

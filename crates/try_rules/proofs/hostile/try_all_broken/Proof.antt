@@ -5,10 +5,10 @@ use Rattle.try_rules.proofs.hostile.try_all_broken.Statement.{statement
 use Rattle.try_rules.proofs.hostile.try_all_broken.Tie as tie
 
 abbrev Inv-loop : tie.InvT-loop
-Inv-loop run₀ way₀ run way = way ≤ 23
+Inv-loop run₀ way₀ run way = way ≤ 33
 
 abbrev μ-loop : tie.MeasureT-loop
-μ-loop run₀ way₀ run way = 23 - way
+μ-loop run₀ way₀ run way = 33 - way
 
 loop-holds : tie.Need-loop-holds Inv-loop μ-loop
 loop-holds c = search needs

@@ -5,10 +5,10 @@ use Rattle.try_rules.proofs.hostile.try_all_cut.Statement.{statement}
 use Rattle.try_rules.proofs.hostile.try_all_cut.Tie as tie
 
 abbrev Inv-loop : tie.InvT-loop
-Inv-loop run₀ size₀ t3 run size = size ≤ 21
+Inv-loop run₀ size₀ t3 run size = size ≤ 22
 
 abbrev μ-loop : tie.MeasureT-loop
-μ-loop run₀ size₀ t3 run size = 21 - size
+μ-loop run₀ size₀ t3 run size = 22 - size
 
 loop-holds : tie.Need-loop-holds Inv-loop μ-loop
 loop-holds c = search needs

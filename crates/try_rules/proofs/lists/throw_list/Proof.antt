@@ -5,13 +5,19 @@ use Rattle.try_rules.proofs.lists.throw_list.Statement.{statement}
 use Rattle.try_rules.proofs.lists.throw_list.Tie as tie
 
 abbrev Inv-loop : tie.InvT-loop
-Inv-loop seed far n times stride list₀ c₀ list c = c ≤ 63
+Inv-loop seed far n order least times stride list₀ c₀ list c = c ≤ 63
 
 abbrev μ-loop : tie.MeasureT-loop
-μ-loop seed far n times stride list₀ c₀ list c = 63 - c
+μ-loop seed far n order least times stride list₀ c₀ list c = 63 - c
+
+throw-fields-requires : tie.Need-throw-fields-requires Inv-loop μ-loop
+throw-fields-requires c κs = search needs
 
 throw-requires : tie.Need-throw-requires Inv-loop μ-loop
 throw-requires c κs = search needs
+
+throw-least-requires : tie.Need-throw-least-requires Inv-loop μ-loop
+throw-least-requires c κs = search needs
 
 throw-requires-2 : tie.Need-throw-requires-2 Inv-loop μ-loop
 throw-requires-2 c κs = search needs
@@ -52,7 +58,9 @@ throw-list-spec =
     (tie.spec
     Inv-loop
     μ-loop
+    throw-fields-requires
     throw-requires
+    throw-least-requires
     throw-requires-2
     throw-stride-requires
     loop-holds

@@ -5,10 +5,10 @@ use Rattle.try_rules.proofs.rounds.store_rounds.Statement.{statement}
 use Rattle.try_rules.proofs.rounds.store_rounds.Tie as tie
 
 abbrev Inv-loop : tie.InvT-loop
-Inv-loop run₀ i₀ run i = i ≤ 300
+Inv-loop run₀ i₀ run i = i ≤ 400
 
 abbrev μ-loop : tie.MeasureT-loop
-μ-loop run₀ i₀ run i = 300 - i
+μ-loop run₀ i₀ run i = 400 - i
 
 loop-holds : tie.Need-loop-holds Inv-loop μ-loop
 loop-holds c = search needs

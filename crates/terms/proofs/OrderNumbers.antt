@@ -1,0 +1,47 @@
+-- Each of the two orders has a number of its own, and no other number names an order: a number is compared with the two, one after the other.
+use Prim.Native.Nat.{ℕ}
+use mathlib.Core.Path.{_≡_, refl, ap, _∙_}
+use mathlib.Core.Logic.{_≢_}
+use mathlib.Core.Bool.{cond}
+use native.Mathlib.Omega.{arith}
+use borrow.Author.Tests.{ne-eqb}
+use lib.Dec.{eqb}
+use Rattle.terms.specs.declared.order.ListOrder.{ListOrder}
+use Rattle.terms.specs.declared.order.ListOrder.the-variants.{FieldsFirst, LeftFirst}
+use Rattle.terms.specs.declared.order.NamedOrder.{NamedOrder}
+use Rattle.terms.specs.declared.order.NamedOrder.the-variants.{Known, Unknown}
+use Rattle.terms.specs.Order.{order-number, order-named, if-known}
+use Rattle.terms.proofs.Cases.{by-eq}
+
+-- Each order's number names it,
+pub number-names : (order : ListOrder) → order-named (order-number order) ≡ Known order
+unfolding order-named
+number-names FieldsFirst = refl
+number-names LeftFirst = refl
+
+-- a number names no order but the one that has it,
+pub named-number : (k : ℕ) (order : ListOrder) → order-named k ≡ Known order → k ≡ order-number order
+unfolding order-named
+named-number k order =
+    by-eq (λ t. cond t (Known FieldsFirst) (cond (eqb k 1) (Known LeftFirst) Unknown) ≡ Known order → k ≡ order-number order) k 0
+    (λ z e. z ∙ ap number-of e)
+    (λ _. by-eq (λ t. cond t (Known LeftFirst) Unknown ≡ Known order → k ≡ order-number order) k 1
+    (λ o e. o ∙ ap number-of e) (λ _ e. absurd (let z : _≡_ {A = ℕ} 0 1 = cc in omega arith)))
+  where
+    number-of : NamedOrder → ℕ
+    number-of (Known o) = order-number o
+    number-of Unknown = 0
+
+-- and a number that no order has names none.
+pub unknown-number : (k : ℕ) → ((order : ListOrder) → k ≢ order-number order) → order-named k ≡ Unknown
+unfolding order-named
+unknown-number k other = simp (ne-eqb k 0 (other FieldsFirst), ne-eqb k 1 (other LeftFirst))
+
+-- Where what comes of an unknown order is shut out, the number is an order's, and what came of it came of that order.
+pub known-says : {A : Type 0} (k : ℕ) (next : ListOrder → A) (stop a : A) → (stop ≡ a → ⊥) → if-known (order-named k) next stop ≡ a
+    → (order : ListOrder) × (k ≡ order-number order) × (next order ≡ a)
+known-says {A} k next stop a shut = go (order-named k) refl
+  where
+    go : (o : NamedOrder) → order-named k ≡ o → if-known o next stop ≡ a → (order : ListOrder) × (k ≡ order-number order) × (next order ≡ a)
+    go (Known order) d e = (order, named-number k order d, e)
+    go Unknown d e = absurd (shut e)
