@@ -34,7 +34,7 @@
      13  the list has more than 20 questions            33  the rule has more than 256 rows
      14  a field is above n, or steps above 1,023       34  unknown kind, nonzero unused column, reference not lower
      15  not a simplified question                      35  a field is above n, or steps above 1,023
-     16  not above the question before, by the order    36  an equation neither always nor never nor on the list
+     16  not strictly above the one before, by order    36  an equation neither always nor never nor on the list
      18  the order is neither 0 nor 1                   41  a handle is at or above used + 2
      21  the store is shorter than 4 + 2q words         51  used plus the new entries exceeds the store's room
      22  the store is not sound                         52  nothing satisfies the handle

@@ -1,4 +1,4 @@
--- What an operation leaves is what the C function leaves, once the answer is put in document 01's numbers.
+-- What an operation leaves is what the C function leaves, once the answer is put in the documents' numbers.
 use Prim.Native.Nat.{ℕ}
 use mathlib.Core.List.{List}
 use mathlib.Core.Path.{_≡_, ap, _∙_}

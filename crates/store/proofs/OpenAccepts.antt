@@ -54,7 +54,7 @@ pub accepts : (limits : Limits) (n order : ℕ) (list : List ℕ) (words : ℕ) 
 unfolding opening opening-in
 accepts limits n order list words e =
     let fields = past-lt _ _ (Refused TooManyFields) _ refl e in
-    let known = known-says order (λ (known : ListOrder). opening-in known limits n list words) (Refused UnknownOrder) Accepted (no refl) (fields .1) in
+    let known = known-says order (λ (known : ListOrder). opening-in known limits n list words) (Refused UnknownOrder) Accepted (fields .1) (no refl) in
     let even = past-eq _ _ (Refused OddList) _ refl (known .2) in
     let few = past-lt _ _ (Refused TooManyQuestions) _ refl (even .1) in
     let parts = both _ _ (few .1) in

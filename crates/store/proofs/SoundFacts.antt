@@ -106,7 +106,7 @@ module _ (limits : Limits) (s : List ℕ) where
   list-says : spec.list-sound limits s ≡ true → (order : ListOrder) × (store-order s ≡ order-number order) × (list-answer order ≡ Accepted)
   unfolding spec.list-sound
   list-says t =
-      let known = known-says (store-order s) (λ order. is-accepted (list-answer order)) _ true false≢true t in
+      let known = known-says (store-order s) _ _ true t (λ e. false≢true e) in
       (known .0, known .1, accepted-says (list-answer (known .0)) (known .2))
 
   pub list-from : (order : ListOrder) → store-order s ≡ order-number order → list-answer order ≡ Accepted → spec.list-sound limits s ≡ true

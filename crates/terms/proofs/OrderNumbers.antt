@@ -38,9 +38,9 @@ unfolding order-named
 unknown-number k other = simp (ne-eqb k 0 (other FieldsFirst), ne-eqb k 1 (other LeftFirst))
 
 -- Where what comes of an unknown order is shut out, the number is an order's, and what came of it came of that order.
-pub known-says : {A : Type 0} (k : ℕ) (next : ListOrder → A) (stop a : A) → (stop ≡ a → ⊥) → if-known (order-named k) next stop ≡ a
+pub known-says : {A : Type 0} (k : ℕ) (next : ListOrder → A) (stop a : A) → if-known (order-named k) next stop ≡ a → (stop ≡ a → ⊥)
     → (order : ListOrder) × (k ≡ order-number order) × (next order ≡ a)
-known-says {A} k next stop a shut = go (order-named k) refl
+known-says {A} k next stop a came shut = go (order-named k) refl came
   where
     go : (o : NamedOrder) → order-named k ≡ o → if-known o next stop ≡ a → (order : ListOrder) × (k ≡ order-number order) × (next order ≡ a)
     go (Known order) d e = (order, named-number k order d, e)

@@ -1,4 +1,4 @@
-//! The operations as document 01 states them, with no thought of speed.
+//! The operations as documents 01 and 02 state them, with no thought of speed.
 
 use std::cell::RefCell;
 use std::collections::{BTreeMap, BTreeSet};

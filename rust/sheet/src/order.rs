@@ -5,7 +5,7 @@ use crate::{Equation, Question};
 /// An order in which a store's list of questions stands. Each question must be strictly above the one before it.
 ///
 /// Only questions with the same left field, of which the one with more left steps has the smaller right field, stand differently in the
-/// two orders. So many a list is good for both, and the order of a store can't be told from its list.
+/// two orders. Many lists are good for both, so the order of a store can't be told from its list.
 ///
 /// ```
 /// use sheet::{Field, Order, Refusal, Store};
@@ -18,11 +18,10 @@ use crate::{Equation, Question};
 /// assert_eq!(Store::open(3, Order::LeftFirst, [one_less, same], 10), Err(Refusal::NotAscending));
 /// # Ok::<(), Refusal>(())
 /// ```
-#[derive(Clone, Copy, Debug, Default, PartialEq, Eq, Hash)]
+#[derive(Clone, Copy, Debug, PartialEq, Eq, Hash)]
 #[repr(u32)]
 pub enum Order {
     /// 0, document 01's: left field, right field, left steps, right steps are compared, the first that differs deciding.
-    #[default]
     FieldsFirst = 0,
     /// 1, the older books': left field, left steps, right field, right steps are compared, the first that differs deciding.
     LeftFirst = 1,
