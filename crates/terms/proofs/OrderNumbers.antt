@@ -23,10 +23,10 @@ number-names LeftFirst = refl
 pub named-number : (k : ℕ) (order : ListOrder) → order-named k ≡ Known order → k ≡ order-number order
 unfolding order-named
 named-number k order =
-    by-eq (λ t. cond t (Known FieldsFirst) (cond (eqb k 1) (Known LeftFirst) Unknown) ≡ Known order → k ≡ order-number order) k 0
-    (λ z e. z ∙ ap number-of e)
-    (λ _. by-eq (λ t. cond t (Known LeftFirst) Unknown ≡ Known order → k ≡ order-number order) k 1
-    (λ o e. o ∙ ap number-of e) (λ _ e. absurd (let z : _≡_ {A = ℕ} 0 1 = cc in omega arith)))
+    by-eq (λ t. cond t (Known FieldsFirst) (cond (eqb k (order-number LeftFirst)) (Known LeftFirst) Unknown) ≡ Known order → k ≡ order-number order)
+    k (order-number FieldsFirst) (λ is e. is ∙ ap number-of e)
+    (λ _. by-eq (λ t. cond t (Known LeftFirst) Unknown ≡ Known order → k ≡ order-number order)
+    k (order-number LeftFirst) (λ is e. is ∙ ap number-of e) (λ _ e. absurd (let z : _≡_ {A = ℕ} 0 1 = cc in omega arith)))
   where
     number-of : NamedOrder → ℕ
     number-of (Known o) = order-number o
@@ -35,7 +35,7 @@ named-number k order =
 -- and a number that no order has names none.
 pub unknown-number : (k : ℕ) → ((order : ListOrder) → k ≢ order-number order) → order-named k ≡ Unknown
 unfolding order-named
-unknown-number k other = simp (ne-eqb k 0 (other FieldsFirst), ne-eqb k 1 (other LeftFirst))
+unknown-number k other = simp (ne-eqb k (order-number FieldsFirst) (other FieldsFirst), ne-eqb k (order-number LeftFirst) (other LeftFirst))
 
 -- Where what comes of an unknown order is shut out, the number is an order's, and what came of it came of that order.
 pub known-says : {A : Type 0} (k : ℕ) (next : ListOrder → A) (stop a : A) → if-known (order-named k) next stop ≡ a → (stop ≡ a → ⊥)
