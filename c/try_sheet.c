@@ -289,22 +289,26 @@ static void orders_opened(void)
     answer("ix open S(3) = 1, 3 = 2 in order 0", sheet_open(3, 0, WORDS(35, 1, 3, 2), store, LENGTH(store)), 0, 0);
     words(store, WORDS(3, 2, 0, 0, 35, 1, 3, 2));
     answer("ix open 3 = 2, S(3) = 1 in order 1", sheet_open(3, 1, WORDS(3, 2, 35, 1), store, LENGTH(store)), 0, 0);
+    answer("ix open in 7 words", sheet_open(3, 0, WORDS(35, 1, 3, 2), store, 7), 21, 0);
     words(store, WORDS(3, 2, 0, 1, 3, 2, 35, 1));
-    answer("ix open in 7 words", sheet_open(3, 1, WORDS(3, 2, 35, 1), store, 7), 21, 0);
 }
 
-/* S(2) = 1, 3 = S(1), S(3) = 1 and 3 = 2, of which two are exchanged in order 1; and a question twice. Each number counts in its place: the
-   left field before everything, and the right field before the right steps. */
+/* Eight questions in each order, and a question twice. Between neighbours each of the first three numbers decides somewhere where the next would
+   say the opposite, and the fourth decides somewhere. */
 static void orders_compared(void)
 {
-    uint32_t store[12];
-    answer("ix open four in order 0", sheet_open(3, 0, WORDS(34, 1, 3, 33, 35, 1, 3, 2), store, LENGTH(store)), 0, 0);
-    answer("ix open four in order 1", sheet_open(3, 1, WORDS(34, 1, 3, 33, 3, 2, 35, 1), store, LENGTH(store)), 0, 0);
-    answer("ix open order 0's in order 1", sheet_open(3, 1, WORDS(34, 1, 3, 33, 35, 1, 3, 2), store, LENGTH(store)), 16, 0);
-    answer("ix open order 1's in order 0", sheet_open(3, 0, WORDS(34, 1, 3, 33, 3, 2, 35, 1), store, LENGTH(store)), 16, 0);
-    answer("ix open 3 = 2 twice in order 0", sheet_open(3, 0, WORDS(3, 2, 3, 2), store, LENGTH(store)), 16, 0);
-    answer("ix open 3 = 2 twice in order 1", sheet_open(3, 1, WORDS(3, 2, 3, 2), store, LENGTH(store)), 16, 0);
-    words(store, WORDS(3, 4, 0, 1, 34, 1, 3, 33, 3, 2, 35, 1));
+    uint32_t store[20];
+    answer("ix open eight in order 0",
+           sheet_open(4, 0, WORDS(2, 1, 34, 1, 3, 1, 3, 33, 35, 1, 3, 2, 3, 34, 4, 1), store, LENGTH(store)), 0, 0);
+    answer("ix open eight in order 1",
+           sheet_open(4, 1, WORDS(2, 1, 34, 1, 3, 1, 3, 33, 3, 2, 3, 34, 35, 1, 4, 1), store, LENGTH(store)), 0, 0);
+    answer("ix open order 0's in order 1",
+           sheet_open(4, 1, WORDS(2, 1, 34, 1, 3, 1, 3, 33, 35, 1, 3, 2, 3, 34, 4, 1), store, LENGTH(store)), 16, 0);
+    answer("ix open order 1's in order 0",
+           sheet_open(4, 0, WORDS(2, 1, 34, 1, 3, 1, 3, 33, 3, 2, 3, 34, 35, 1, 4, 1), store, LENGTH(store)), 16, 0);
+    answer("ix open 3 = 2 twice in order 0", sheet_open(4, 0, WORDS(3, 2, 3, 2), store, LENGTH(store)), 16, 0);
+    answer("ix open 3 = 2 twice in order 1", sheet_open(4, 1, WORDS(3, 2, 3, 2), store, LENGTH(store)), 16, 0);
+    words(store, WORDS(4, 8, 0, 1, 2, 1, 34, 1, 3, 1, 3, 33, 3, 2, 3, 34, 35, 1, 4, 1));
 }
 
 /* First at most 16 fields, then an order, then an even number of words. */

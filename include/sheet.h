@@ -84,8 +84,8 @@ typedef struct {
    Refusals: 35, with n taken as 16. */
 sheet_simplified sheet_simplify(uint32_t a, uint32_t b);
 
-/* Opens a store for n fields and a list of questions in an order, two term words each: writes n, the number of questions, no entries, the
-   order, the list, and zeros in all the rest. The result is 0.
+/* Opens a store for n fields and a list of questions, two term words each, that stand in an order: writes n, the number of questions, no
+   entries, the order, the list, and zeros in all the rest. The result is 0.
    Refusals: 11, 18, 12, 13, then question by question 14, 15, 16, then 21. */
 sheet_answer sheet_open(uint32_t n, uint32_t order, const uint32_t *list, size_t list_len, uint32_t *store, size_t store_len);
 

@@ -29,9 +29,12 @@ pub fn used(store: &[u32]) -> u32 {
     word_at(store, 2)
 }
 
+// The place of the word that names the order.
+pub const ORDER_PLACE: usize = 3;
+
 // The order that the list is in by the store's own words.
 pub fn order(store: &[u32]) -> u32 {
-    word_at(store, 3)
+    word_at(store, ORDER_PLACE)
 }
 
 // The left and the right term of question k, counted from 1.

@@ -34,6 +34,7 @@ pub use grid::covers;
 pub use grid::sheet_of;
 pub use grid::sheets_of;
 pub use layout::HEADING;
+pub use layout::ORDER_PLACE;
 pub use layout::field;
 pub use layout::fields;
 pub use layout::left_of;

@@ -1,6 +1,7 @@
 // What opening must answer, and the words that it must leave.
 use crate::answer::refuse;
 use crate::layout::HEADING;
+use crate::layout::ORDER_PLACE;
 use crate::lists::bad_order;
 use crate::lists::questions_fault;
 use crate::words::copy;
@@ -26,7 +27,7 @@ fn opened(n: u32, order: u32, list: &[u32]) -> [u32; MOST_OPENED] {
     let mut words = [0u32; MOST_OPENED];
     words[0] = n;
     words[1] = (list.len() / 2 % 32) as u32;
-    words[3] = order;
+    words[ORDER_PLACE] = order;
     for i in 0..MOST_LISTED {
         words[HEADING + i] = word_at(list, i);
     }

@@ -1,4 +1,4 @@
--- The list, the rules and the words of document 01's cases 6 to 8.
+-- The list, the rules and the words of document 01's cases 6 to 8, with the fourth heading word of document 02 (ix).
 use Prim.Native.Nat.{ℕ}
 use mathlib.Core.List.{List, [], _∷_}
 

@@ -1,4 +1,4 @@
--- "the number, result and every lent word afterwards": what a call leaves in the words lent to be written, with its answer in document 01's
+-- "the number, result and every lent word afterwards": what a call leaves in the words lent to be written, with its answer in the documents'
 -- numbers.
 use Rattle.sheet.specs.declared.answers.Answer.{Answer}
 use Rattle.store.specs.Outcome.{Outcome, outcome}

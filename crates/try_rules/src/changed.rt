@@ -8,6 +8,7 @@ use crate::orders::other_order;
 use crate::orders::throw_unknown;
 use crate::run::Run;
 use crate::run::count_store;
+use evaluator::ORDER_PLACE;
 use evaluator::copy;
 use evaluator::covers;
 use evaluator::is_sound;
@@ -49,9 +50,6 @@ fn changed(store: &[u32], place: usize, word: u32) -> [u32; 512] {
     }
     words
 }
-
-// The place of the word that names the order.
-const ORDER_PLACE: usize = 3;
 
 fn try_word(run: Run, store: &[u32], place: usize, word: u32) -> Run {
     let words = changed(store, place, word);

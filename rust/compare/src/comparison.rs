@@ -3,9 +3,10 @@
 use std::collections::BTreeMap;
 
 use independent::{largest_count, leaves, refusal, Answer, Fast, Operations, Paths, Plain, Question};
-use independent::{SimplifyAnswer, Term, MOST_ENTRIES, MOST_FIELDS, MOST_QUESTIONS};
+use independent::{SimplifyAnswer, Term, HEADING, MOST_ENTRIES, MOST_FIELDS, MOST_QUESTIONS};
 
 use crate::calls::{Call, Outcome};
+use crate::generate::Survey;
 use crate::library::Library;
 
 /// Differences are printed up to this many.
@@ -147,6 +148,12 @@ impl Comparison {
         if !holds {
             self.differ(&format!("{name}: {}", describe()));
         }
+    }
+
+    /// Opens a store with room for so many entries, on words that are not zero.
+    pub fn opened(&mut self, survey: &Survey, room: usize) -> Vec<u32> {
+        let length = HEADING + survey.list.len() + 3 * room;
+        self.call(&survey.open(), &vec![1; length]).store
     }
 
     /// Notes that one of the occasions was met.

@@ -36,7 +36,7 @@ impl Survey {
 }
 
 /// Numbers that name no order. Some of them are 0 or 1 if bits are left out.
-const UNKNOWN_ORDERS: [u32; 5] = [2, 3, 256, 1 << 31, u32::MAX];
+pub const UNKNOWN_ORDERS: [u32; 5] = [2, 3, 256, 1 << 31, u32::MAX];
 
 /// How large the fields, gaps and lists of a random survey get.
 #[derive(Clone, Copy)]
@@ -562,7 +562,7 @@ pub fn damage(random: &mut Random, store: &mut Vec<u32>, fault: Fault) {
     }
 }
 
-/// Changes a word of the heading. Some of the numbers, times three or plus a few, are small again in 32 bits.
+/// Changes a word of the heading. Some of the numbers, times two or three or plus a few, are small again in 32 bits.
 fn damage_heading(random: &mut Random, store: &mut [u32], fault: Fault) {
     let (n, q, used, order) = (store[0], store[1], store[2], store[3]);
     match fault {

@@ -91,14 +91,29 @@ fn questions_are_arranged_in_either_order() {
         Ok(Simplified::Question(question)) => question,
         other => panic!("{equation} is no question but {other:?}"),
     };
-    for order in Order::ALL {
-        let mut questions: Vec<Question> =
-            pairs().into_iter().chain(numbers(2)).rev().chain(told_apart(order)).map(question).collect();
+    let (one, two, three, four) = (Field(1), Field(2), Field(3), Field(4));
+    // Between neighbours of each list below, each of the first three numbers decides where the next would say the opposite, and the fourth decides.
+    let mixed = [
+        four.equals(one),
+        three.equals(two + 1),
+        (three + 1).equals(one),
+        (two + 1).equals(one),
+        three.equals(two),
+        three.equals(one + 1),
+        two.equals(one),
+        three.equals(one),
+        three.equals(two),
+    ];
+    let lists = [
+        (Order::FieldsFirst, [2, 1, 34, 1, 3, 1, 3, 33, 35, 1, 3, 2, 3, 34, 4, 1]),
+        (Order::LeftFirst, [2, 1, 34, 1, 3, 1, 3, 33, 3, 2, 3, 34, 35, 1, 4, 1]),
+    ];
+    for (order, list) in lists {
+        let mut questions: Vec<Question> = mixed.into_iter().map(question).collect();
         order.arrange(&mut questions);
         assert!(questions.windows(2).all(|pair| order.compare(&pair[0], &pair[1]).is_lt()));
-        // One question stands in two of the lists.
-        assert_eq!(questions.len(), 6);
-        let store = Store::open(3, order, questions.clone(), 1).unwrap();
+        let store = Store::open(4, order, questions.clone(), 0).unwrap();
+        assert_eq!(store.as_words()[4..], list);
         assert_eq!(store.questions(), questions);
     }
 }

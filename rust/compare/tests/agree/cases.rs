@@ -237,16 +237,17 @@ fn orders(comparison: &mut Comparison) {
     orders_in_a_store(comparison);
 }
 
-/// S(2) = 1, 3 = S(1), S(3) = 1 and 3 = 2, of which two are exchanged in order 1; and a question twice. Each number counts in its place: the
-/// left field before everything, and the right field before the right steps.
+/// Eight questions in each order, and a question twice. Between neighbours each of the first three numbers decides somewhere where the next would
+/// say the opposite, and the fourth decides somewhere.
 fn orders_compared(comparison: &mut Comparison) {
-    let four = [[34, 1, 3, 33, 35, 1, 3, 2], [34, 1, 3, 33, 3, 2, 35, 1]];
+    let eight =
+        [[2, 1, 34, 1, 3, 1, 3, 33, 35, 1, 3, 2, 3, 34, 4, 1], [2, 1, 34, 1, 3, 1, 3, 33, 3, 2, 3, 34, 35, 1, 4, 1]];
     for order in ORDERS {
         for list_order in ORDERS {
-            let outcome = open(comparison, 3, order, &four[list_order as usize], 12);
+            let outcome = open(comparison, 4, order, &eight[list_order as usize], 20);
             answer(comparison, &outcome, if order == list_order { 0 } else { 16 }, 0);
         }
-        let twice = open(comparison, 3, order, &[3, 2, 3, 2], 12);
+        let twice = open(comparison, 4, order, &[3, 2, 3, 2], 20);
         answer(comparison, &twice, 16, 0);
     }
 }

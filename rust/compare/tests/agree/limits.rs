@@ -2,7 +2,7 @@
 
 use compare::calls::Call;
 use compare::comparison::Comparison;
-use compare::generate::{self, store_of, Gaps, Size, Survey};
+use compare::generate::{self, store_of, Gaps, Size, Survey, UNKNOWN_ORDERS};
 use compare::random::Random;
 use independent::{FIELDS_FIRST, FIRST_ENTRY, HEADING, MOST_ENTRIES, MOST_FIELDS, MOST_QUESTIONS, MOST_ROWS, ORDERS};
 
@@ -12,11 +12,6 @@ const NEWEST: u32 = MOST_ENTRIES as u32 - 1 + FIRST_ENTRY;
 /// One field against `questions` numbers: every walk is short, however many entries the store has. The list stands in both orders.
 fn one_field(order: u32, questions: u32) -> Survey {
     Survey { n: 1, order, list: (0..questions).flat_map(|steps| [1, 32 * steps]).collect() }
-}
-
-fn open(comparison: &mut Comparison, survey: &Survey, room: usize) -> Vec<u32> {
-    let length = HEADING + survey.list.len() + 3 * room;
-    comparison.call(&survey.open(), &vec![1; length]).store
 }
 
 fn expect(comparison: &mut Comparison, what: &'static str, call: &Call, store: &[u32], number: u32) -> Vec<u32> {
@@ -49,7 +44,7 @@ fn questions(comparison: &mut Comparison, order: u32) {
     }
 }
 
-/// Every operation on slices of 0 to 4 words. Four words are the shortest store, and the last of them is an order.
+/// Every operation that takes a store, on slices of 0 to 4 words. Four words are the shortest store, and the last of them is an order.
 fn short_stores(comparison: &mut Comparison) {
     let calls = [
         Call::Build { rule: vec![1, 0, 0, 0] },
@@ -61,20 +56,22 @@ fn short_stores(comparison: &mut Comparison) {
         Call::Read { handle: 1, sheet: vec![] },
         Call::WriteBack { handle: 0, rule: vec![9; 4] },
     ];
-    let orders = [(0, 0), (1, 0), (2, 22), (3, 22), (256, 22), (1 << 31, 22), (u32::MAX, 22)];
     for call in calls {
         for length in 0..HEADING {
             expect(comparison, "a store without a heading", &call, &[0; HEADING][..length], 22);
         }
-        for (order, number) in orders {
-            expect(comparison, "the shortest store", &call, &[0, 0, 0, order], number);
+        for order in ORDERS {
+            expect(comparison, "the shortest store", &call, &[0, 0, 0, order], 0);
+        }
+        for order in UNKNOWN_ORDERS {
+            expect(comparison, "an unknown order", &call, &[0, 0, 0, order], 22);
         }
     }
 }
 
 fn rows(comparison: &mut Comparison, random: &mut Random) {
     let survey = one_field(FIELDS_FIRST, 20);
-    let store = open(comparison, &survey, 100);
+    let store = comparison.opened(&survey, 100);
     for (rows, number) in [(1, 0), (MOST_ROWS - 1, 0), (MOST_ROWS, 0), (MOST_ROWS + 1, 33)] {
         let rule = generate::rule_of(random, &survey, rows);
         expect(comparison, "rows", &Call::Build { rule }, &store, number);
@@ -177,7 +174,7 @@ pub fn large_diagrams(comparison: &mut Comparison, random: &mut Random, cases: u
 fn long_walks(comparison: &mut Comparison, random: &mut Random) {
     let wide = Size { fields: (MOST_FIELDS, MOST_FIELDS), gaps: Gaps::up_to(9), most_questions: 16 };
     let survey = generate::survey(random, wide);
-    let store = open(comparison, &survey, MOST_ENTRIES);
+    let store = comparison.opened(&survey, MOST_ENTRIES);
     let parity = comparison.call(&Call::Build { rule: generate::parity_rule(&survey.list) }, &store);
     let handle = parity.answer.result;
     let negation = comparison.call(&Call::Negate(handle), &parity.store);
@@ -198,7 +195,7 @@ fn dense_survey(random: &mut Random) -> Survey {
 /// Makes so many calls that add large diagrams, as long as there is room for them.
 fn fill(comparison: &mut Comparison, random: &mut Random, room: usize, most_calls: usize) {
     let survey = dense_survey(random);
-    let mut store = open(comparison, &survey, room);
+    let mut store = comparison.opened(&survey, room);
     let mut known = vec![0, 1];
     for _ in 0..most_calls {
         let rows = random.between(60, MOST_ROWS as u32) as usize;

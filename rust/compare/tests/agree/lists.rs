@@ -6,7 +6,10 @@ use compare::generate::{self, Gaps, Size, Survey, FAR, MIDDLE, SMALL, TALL, WIDE
 use compare::ledger::Ledger;
 use compare::random::Random;
 use independent::{largest_count, possible_by_bounds, possible_by_counting, Answer};
-use independent::{FIELDS_FIRST, HEADING, MOST_FIELDS, MOST_STEPS, ORDERS};
+use independent::{FIELDS_FIRST, MOST_FIELDS, MOST_STEPS, ORDERS};
+
+/// The entries of a store that is hardly ever full.
+const LARGE_ROOM: usize = 2_000;
 
 /// That difference bounds and trying all counts find the same combinations of answers.
 pub fn possible_answers(comparison: &mut Comparison, random: &mut Random, cases: u64) {
@@ -131,8 +134,7 @@ pub fn long_paths(comparison: &mut Comparison, random: &mut Random, cases: u64) 
     for _ in 0..cases {
         let gaps = *random.pick(&[Gaps::up_to(1), Gaps::up_to(3), FAR.gaps, Gaps::up_to(MOST_STEPS)]);
         let survey = generate::survey(random, Size { fields: (1, MOST_FIELDS), gaps, most_questions: 20 });
-        let length = HEADING + survey.list.len() + 3 * 1_000;
-        let mut store = comparison.call(&survey.open(), &vec![0; length]).store;
+        let mut store = comparison.opened(&survey, 1_000);
         let mut handles = Vec::new();
         for _ in 0..3 {
             let outcome = comparison.call(&Call::Build { rule: generate::long_path_rule(random, &survey) }, &store);
@@ -198,8 +200,7 @@ struct Found {
 
 /// Makes calls on rules in a new store, each giving the next rule, until one is refused. Gives what the store says of all rules.
 fn rules_found(comparison: &mut Comparison, survey: &Survey, calls: &[Call]) -> Vec<Found> {
-    let length = HEADING + survey.list.len() + 3 * 2_000;
-    let mut store = comparison.call(&survey.open(), &vec![0; length]).store;
+    let mut store = comparison.opened(survey, LARGE_ROOM);
     let mut handles = vec![0, 1];
     for call in calls {
         let handle = |rule: u32| handles[rule as usize];
@@ -302,8 +303,7 @@ pub fn laws(comparison: &mut Comparison, random: &mut Random, cases: u64) {
     for _ in 0..cases / 4 {
         let size = *random.pick(&[SMALL, MIDDLE, FAR, TALL]);
         let survey = generate::survey(random, size);
-        let length = HEADING + survey.list.len() + 3 * 2_000;
-        let mut store = comparison.call(&survey.open(), &vec![0; length]).store;
+        let mut store = comparison.opened(&survey, LARGE_ROOM);
         let letters = [0; LETTERS].map(|_| {
             let outcome = comparison.call(&Call::Build { rule: generate::rule(random, &survey) }, &store);
             store.clone_from(&outcome.store);
