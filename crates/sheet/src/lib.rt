@@ -5,6 +5,7 @@ mod asking;
 mod changing;
 mod diagrams;
 mod equations;
+mod logging;
 
 pub use answers::Answer;
 pub use asking::sheet_example;
@@ -18,3 +19,5 @@ pub use changing::sheet_negate;
 pub use changing::sheet_open;
 pub use diagrams::sheet_check_normal_form;
 pub use equations::sheet_simplify;
+pub use logging::sheet_logger_build;
+pub use logging::sheet_logger_open;

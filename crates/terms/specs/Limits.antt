@@ -32,6 +32,20 @@ term-limits = record { field = field most-fields; steps = steps most-steps }
 abbrev pub store-limits : Limits
 store-limits = record { terms = term-limits; questions = most-questions; entries = most-entries }
 
+-- Document 02 (xi): "The logger needs its own open and build, for 6 fields, 8 questions and 200 entries."
+abbrev pub logger-fields : ℕ
+logger-fields = 6
+
+abbrev pub logger-questions : ℕ
+logger-questions = 8
+
+abbrev pub logger-entries : ℕ
+logger-entries = 200
+
+-- What a logger's store may hold; the steps of its terms are those of every term.
+abbrev pub logger-limits : Limits
+logger-limits = record { terms = record { field = field logger-fields; steps = steps most-steps }; questions = logger-questions; entries = logger-entries }
+
 -- the limits of a term in a store of n fields: "field above n", and the steps' own limit
 abbrev pub terms-within : Limits → ℕ → TermLimits
 terms-within limits n = record { field = field n; steps = limits .terms .steps }

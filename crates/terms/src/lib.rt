@@ -10,6 +10,7 @@ pub use limits::MOST_ENTRIES;
 pub use limits::MOST_FIELDS;
 pub use limits::MOST_QUESTIONS;
 pub use limits::TermLimits;
+pub use limits::limits_of_logger;
 pub use limits::limits_of_store;
 pub use limits::term_limits;
 pub use limits::terms_within;

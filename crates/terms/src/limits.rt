@@ -13,6 +13,13 @@ pub const MOST_QUESTIONS: u32 = 20;
 
 pub const MOST_ENTRIES: u32 = 4096;
 
+// The fields, questions and entries of the logger's store.
+const LOGGER_FIELDS: u32 = 6;
+
+const LOGGER_QUESTIONS: u32 = 8;
+
+const LOGGER_ENTRIES: u32 = 200;
+
 // The largest field number and the largest step count that a term may have.
 pub struct TermLimits {
     pub field: Field,
@@ -45,6 +52,20 @@ pub fn limits_of_store() -> Limits
         terms,
         questions: MOST_QUESTIONS,
         entries: MOST_ENTRIES,
+    }
+}
+
+// The limits of every store that an operation of the logger's is lent.
+pub fn limits_of_logger() -> Limits
+    ensures { λ r. ⌜ r ≡ spec.logger-limits ⌝ }
+{
+    Limits {
+        terms: TermLimits {
+            field: Field(LOGGER_FIELDS),
+            steps: Steps(MOST_STEPS),
+        },
+        questions: LOGGER_QUESTIONS,
+        entries: LOGGER_ENTRIES,
     }
 }
 

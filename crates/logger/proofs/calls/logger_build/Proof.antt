@@ -1,0 +1,20 @@
+-- `logger_build` meets its contract: it is `build_within` at the logger's limits, which the arrays have room for.
+use borrow.Author.Needs.{needs}
+use Rattle.terms.proofs.LimitsFit.{logger-fits}
+use Rattle.logger.proofs.calls.logger_build.Statement.{statement}
+use Rattle.logger.proofs.calls.logger_build.Tie as tie
+
+limits-of-logger-requires : tie.Need-limits-of-logger-requires
+limits-of-logger-requires c κs = search needs
+
+build-within-requires : tie.Need-build-within-requires
+build-within-requires c κs = search (needs, logger-fits)
+
+same-length : tie.Need-same-length
+same-length c = search needs
+
+returns : tie.Need-returns
+returns c = cc
+
+pub logger-build-spec : {M : Type 1} → statement M
+logger-build-spec = tie.close (tie.spec limits-of-logger-requires build-within-requires same-length returns)

@@ -1,0 +1,19 @@
+-- `logger_open` meets its contract: it is `open_within` at the logger's limits.
+use borrow.Author.Needs.{needs}
+use Rattle.logger.proofs.calls.logger_open.Statement.{statement}
+use Rattle.logger.proofs.calls.logger_open.Tie as tie
+
+limits-of-logger-requires : tie.Need-limits-of-logger-requires
+limits-of-logger-requires c κs = search needs
+
+open-within-requires : tie.Need-open-within-requires
+open-within-requires c κs = search needs
+
+same-length : tie.Need-same-length
+same-length c = search needs
+
+returns : tie.Need-returns
+returns c = cc
+
+pub logger-open-spec : {M : Type 1} → statement M
+logger-open-spec = tie.close (tie.spec limits-of-logger-requires open-within-requires same-length returns)
