@@ -1,12 +1,14 @@
 //! A call of any operation as a value, and what it leaves behind.
 
-use independent::{Answer, Operations};
+use independent::{Answer, Limits, Operations, INSTITUTE, LOGGER};
 
 /// A call on a store, or on a table of diagrams, which needs none. Slices beside the store are lent as they stand here.
 #[derive(Clone, Debug)]
 pub enum Call {
     Open { n: u32, order: u32, list: Vec<u32> },
     Build { rule: Vec<u32> },
+    LoggerOpen { n: u32, order: u32, list: Vec<u32> },
+    LoggerBuild { rule: Vec<u32> },
     Negate(u32),
     Join(u32, u32),
     Choose(u32, u32, u32),
@@ -66,6 +68,8 @@ impl Call {
         match self {
             Call::Open { .. } => "open",
             Call::Build { .. } => "build",
+            Call::LoggerOpen { .. } => "logger's open",
+            Call::LoggerBuild { .. } => "logger's build",
             Call::Negate(_) => "negate",
             Call::Join(..) => "join",
             Call::Choose(..) => "choose",
@@ -77,23 +81,53 @@ impl Call {
         }
     }
 
-    /// Makes the call on copies of the lent words.
-    pub fn make(&self, operations: &dyn Operations, store: &[u32]) -> Outcome {
-        let words: &[u32] = match self {
-            Call::Open { list: words, .. } | Call::Build { rule: words } | Call::WriteBack { rule: words, .. } => words,
-            Call::CheckNormalForm { table: words, .. } => words,
+    /// The limits that the operation keeps to.
+    pub fn limits(&self) -> Limits {
+        match self {
+            Call::LoggerOpen { .. } | Call::LoggerBuild { .. } => LOGGER,
+            _ => INSTITUTE,
+        }
+    }
+
+    /// The same opening or build by the other one of the institute and the logger.
+    pub fn by_the_other(&self) -> Option<Call> {
+        match self.clone() {
+            Call::Open { n, order, list } => Some(Call::LoggerOpen { n, order, list }),
+            Call::LoggerOpen { n, order, list } => Some(Call::Open { n, order, list }),
+            Call::Build { rule } => Some(Call::LoggerBuild { rule }),
+            Call::LoggerBuild { rule } => Some(Call::Build { rule }),
+            _ => None,
+        }
+    }
+
+    /// The words lent beside the store.
+    fn words(&self) -> &[u32] {
+        match self {
+            Call::Open { list, .. } | Call::LoggerOpen { list, .. } => list,
+            Call::Build { rule } | Call::LoggerBuild { rule } | Call::WriteBack { rule, .. } => rule,
+            Call::CheckNormalForm { table, .. } => table,
             _ => &[],
-        };
-        let sheet: &[u16] = match self {
+        }
+    }
+
+    /// The counts lent beside the store.
+    fn sheet(&self) -> &[u16] {
+        match self {
             Call::Example { sheet, .. } | Call::Read { sheet, .. } => sheet,
             _ => &[],
-        };
+        }
+    }
+
+    /// Makes the call on copies of the lent words.
+    pub fn make(&self, operations: &dyn Operations, store: &[u32]) -> Outcome {
         let mut store = Lent::new(store, 0xA5A5_A5A5);
-        let mut words = Lent::new(words, 0x5A5A_5A5A);
-        let mut sheet = Lent::new(sheet, 0xA55A);
+        let mut words = Lent::new(self.words(), 0x5A5A_5A5A);
+        let mut sheet = Lent::new(self.sheet(), 0xA55A);
         let answer = match *self {
             Call::Open { n, order, .. } => operations.open(n, order, words.slice(), store.slice()),
             Call::Build { .. } => operations.build(store.slice(), words.slice()),
+            Call::LoggerOpen { n, order, .. } => operations.logger_open(n, order, words.slice(), store.slice()),
+            Call::LoggerBuild { .. } => operations.logger_build(store.slice(), words.slice()),
             Call::Negate(a) => operations.negate(store.slice(), a),
             Call::Join(a, b) => operations.join(store.slice(), a, b),
             Call::Choose(a, b, c) => operations.choose(store.slice(), a, b, c),

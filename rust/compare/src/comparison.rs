@@ -2,8 +2,8 @@
 
 use std::collections::BTreeMap;
 
-use independent::{largest_count, leaves, refusal, Answer, Fast, Operations, Paths, Plain, Question};
-use independent::{SimplifyAnswer, Term, HEADING, MOST_ENTRIES, MOST_FIELDS, MOST_QUESTIONS};
+use independent::{largest_count, leaves, refusal, Answer, Fast, Limits, Operations, Paths, Plain, Question};
+use independent::{SimplifyAnswer, Term, HEADING, LOGGER};
 
 use crate::calls::{Call, Outcome};
 use crate::generate::Survey;
@@ -75,7 +75,21 @@ impl Default for Comparison {
 
 impl Comparison {
     /// Makes a call with the library and with every implementation that can afford it. Gives what the library left.
+    ///
+    /// An opening or a build is made by the institute and by the logger, on the same words, whichever of them is called: what the logger
+    /// accepts, the institute does just so.
     pub fn call(&mut self, call: &Call, store: &[u32]) -> Outcome {
+        let outcome = self.call_one(call, store);
+        if let Some(other) = call.by_the_other() {
+            let other = self.call_one(&other, store);
+            let logger = if call.limits() == LOGGER { &outcome } else { &other };
+            let alike = logger.answer.number != 0 || outcome == other;
+            self.test("what the logger accepts, done by the institute", alike, || format!("{call:?} on {store:?}"));
+        }
+        outcome
+    }
+
+    fn call_one(&mut self, call: &Call, store: &[u32]) -> Outcome {
         let outcome = call.make(&Library, store);
         self.count(call.name(), outcome.answer.number);
         if !outcome.kept_within {
@@ -239,10 +253,12 @@ impl Comparison {
 }
 
 /// The numbers that each operation can give, by documents 01 and 02.
-const NUMBERS: [(&str, &[u32]); 11] = [
+const NUMBERS: [(&str, &[u32]); 13] = [
     ("simplify", &[0, 35]),
     ("open", &[0, 11, 12, 13, 14, 15, 16, 18, 21]),
     ("build", &[0, 22, 31, 32, 33, 34, 35, 36, 51]),
+    ("logger's open", &[0, 11, 12, 13, 14, 15, 16, 18, 21]),
+    ("logger's build", &[0, 22, 31, 32, 33, 34, 35, 36, 51]),
     ("negate", &[0, 22, 41, 51]),
     ("join", &[0, 22, 41, 51]),
     ("choose", &[0, 22, 41, 51]),
@@ -258,10 +274,10 @@ pub fn questions_of(list: &[u32]) -> Vec<Question> {
     list.chunks(2).map(|pair| (Term::of_word(pair[0]), Term::of_word(pair[1]))).collect()
 }
 
-/// The fields and questions of a store, if its heading leaves a list to look at.
-fn survey_of(store: &[u32]) -> Option<(u32, Vec<Question>)> {
-    let [n, q, _, _, rest @ ..] = store else { return None };
-    if *n > MOST_FIELDS || *q > MOST_QUESTIONS as u32 {
+/// The fields and questions of a store, if its heading is within the limits and leaves a list to look at.
+fn survey_of(limits: &Limits, store: &[u32]) -> Option<(u32, Vec<Question>)> {
+    let [n, q, used, _, rest @ ..] = store else { return None };
+    if *n > limits.fields || *q > limits.questions as u32 || *used > limits.entries as u32 {
         return None;
     }
     Some((*n, questions_of(rest.get(..2 * *q as usize)?)))
@@ -303,19 +319,17 @@ impl Affordable {
 /// read and write back look at every possible combination of answers, and the check of another tool's diagrams at every path.
 fn affordable(call: &Call, store: &[u32]) -> Affordable {
     match call {
-        Call::Open { .. } => return Affordable::BOTH,
+        Call::Open { .. } | Call::LoggerOpen { .. } => return Affordable::BOTH,
         Call::CheckNormalForm { table, root } => {
             let trees = table.len() <= 4 * 300 && leaves(table, *root) <= MOST_PATHS;
             return Affordable { trees, ..Affordable::default() };
         }
         _ => {}
     }
-    if store.get(2).is_some_and(|used| *used > 500 && *used <= MOST_ENTRIES as u32) {
-        return Affordable::default();
-    }
-    match survey_of(store) {
+    match survey_of(&call.limits(), store) {
         // Such a store isn't sound, which they find at once.
         None => Affordable::BOTH,
+        Some(_) if store[2] > 500 => Affordable::default(),
         Some((n, questions)) => Affordable {
             bounds: bounds_are_affordable(n, &questions),
             counting: counting_is_affordable(n, &questions),

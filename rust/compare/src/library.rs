@@ -3,7 +3,7 @@
 use independent::{Answer, Operations, SimplifyAnswer};
 use sheet::words;
 
-/// The eleven operations of libsheet.a.
+/// The thirteen operations of libsheet.a.
 pub struct Library;
 
 fn answer(answer: words::Answer) -> Answer {
@@ -22,6 +22,14 @@ impl Operations for Library {
 
     fn build(&self, store: &mut [u32], rule: &[u32]) -> Answer {
         answer(words::build(store, rule))
+    }
+
+    fn logger_open(&self, n: u32, order: u32, list: &[u32], store: &mut [u32]) -> Answer {
+        answer(words::logger_open(n, order, list, store))
+    }
+
+    fn logger_build(&self, store: &mut [u32], rule: &[u32]) -> Answer {
+        answer(words::logger_build(store, rule))
     }
 
     fn negate(&self, store: &mut [u32], a: u32) -> Answer {

@@ -3,9 +3,8 @@
 use std::collections::HashMap;
 
 use crate::refusal::*;
-use crate::{normal_form, Answer, Operations, SimplifyAnswer, Term};
-use crate::{ALWAYS, FIRST_ENTRY, HEADING, MOST_ENTRIES, MOST_FIELDS, MOST_QUESTIONS, MOST_ROWS, NEVER};
-use crate::{FIELDS_FIRST, ORDERS};
+use crate::{normal_form, Answer, Limits, Operations, SimplifyAnswer, Term, INSTITUTE, LOGGER};
+use crate::{ALWAYS, FIELDS_FIRST, FIRST_ENTRY, HEADING, MOST_FIELDS, MOST_QUESTIONS, MOST_ROWS, NEVER, ORDERS};
 
 /// The operations. They keep nothing between calls: all that is known stands in the lent store.
 pub struct Fast;
@@ -149,8 +148,8 @@ impl Bounds {
 // ---------------------------------------------------------------------------------------------------------------------
 
 /// The questions of a list, or the first of 11 to 18 that it meets.
-fn checked_list(n: u32, order: u32, words: &[u32]) -> Result<Vec<Question>, u32> {
-    if n > MOST_FIELDS {
+fn checked_list(limits: &Limits, n: u32, order: u32, words: &[u32]) -> Result<Vec<Question>, u32> {
+    if n > limits.fields {
         return Err(TOO_MANY_FIELDS);
     }
     if !ORDERS.contains(&order) {
@@ -159,14 +158,14 @@ fn checked_list(n: u32, order: u32, words: &[u32]) -> Result<Vec<Question>, u32>
     if !words.len().is_multiple_of(2) {
         return Err(ODD_LIST);
     }
-    if words.len() / 2 > MOST_QUESTIONS {
+    if words.len() / 2 > limits.questions {
         return Err(TOO_MANY_QUESTIONS);
     }
     let mut questions = Vec::with_capacity(words.len() / 2);
     let mut before = None;
     for pair in words.chunks_exact(2) {
         let (left, right) = (Term::of_word(pair[0]), Term::of_word(pair[1]));
-        if !left.within_limits(n) || !right.within_limits(n) {
+        if !left.within(limits, n) || !right.within(limits, n) {
             return Err(LIST_TERM);
         }
         match simplified(left, right) {
@@ -188,6 +187,7 @@ type Entry = [u32; 3];
 
 /// A sound store taken apart, with an index from each entry to its handle.
 struct Contents<'a> {
+    limits: &'a Limits,
     n: u32,
     questions: Vec<Question>,
     entries: &'a [Entry],
@@ -200,21 +200,26 @@ fn key([question, yes, no]: Entry) -> u64 {
     u64::from(question) << 32 | u64::from(yes) << 16 | u64::from(no)
 }
 
-impl Contents<'_> {
-    /// The contents of a sound store; otherwise 22.
-    fn of(store: &[u32]) -> Result<Contents<'_>, u32> {
-        Contents::of_sound(store).ok_or(NOT_SOUND)
+impl<'a> Contents<'a> {
+    /// The contents of a store that is sound within the institute's limits; otherwise 22.
+    fn of(store: &'a [u32]) -> Result<Contents<'a>, u32> {
+        Contents::within(&INSTITUTE, store)
     }
 
-    fn of_sound(store: &[u32]) -> Option<Contents<'_>> {
+    /// The contents of a store that is sound within the limits; otherwise 22.
+    fn within(limits: &'a Limits, store: &'a [u32]) -> Result<Contents<'a>, u32> {
+        Contents::of_sound(limits, store).ok_or(NOT_SOUND)
+    }
+
+    fn of_sound(limits: &'a Limits, store: &'a [u32]) -> Option<Contents<'a>> {
         let [n, q, used, order, rest @ ..] = store else { return None };
         let (q, used) = (*q as usize, *used as usize);
-        if q > MOST_QUESTIONS || rest.len() < 2 * q {
+        if q > limits.questions || rest.len() < 2 * q {
             return None;
         }
         let (list, rest) = rest.split_at(2 * q);
-        let questions = checked_list(*n, *order, list).ok()?;
-        let room = (rest.len() / 3).min(MOST_ENTRIES);
+        let questions = checked_list(limits, *n, *order, list).ok()?;
+        let room = (rest.len() / 3).min(limits.entries);
         if used > room {
             return None;
         }
@@ -222,7 +227,7 @@ impl Contents<'_> {
         let (entries, _) = entries.as_chunks();
         let index = checked_index(entries, q)?;
         let unused_are_zero = unused.iter().all(|word| *word == 0);
-        unused_are_zero.then_some(Contents { n: *n, questions, entries, index, room })
+        unused_are_zero.then_some(Contents { limits, n: *n, questions, entries, index, room })
     }
 
     fn check_handles(&self, handles: &[u32]) -> Result<(), u32> {
@@ -434,7 +439,7 @@ fn checked_rule(words: &[u32], contents: &Contents) -> Result<Vec<Row>, u32> {
         let checked = match *row {
             [0, 0, 0, 0] => Row::Leaf(NEVER),
             [1, 0, 0, 0] => Row::Leaf(ALWAYS),
-            [2, a, b, 0] => checked_equation(Term::of_word(a), Term::of_word(b), contents.n, &numbers)?,
+            [2, a, b, 0] => checked_equation(Term::of_word(a), Term::of_word(b), contents, &numbers)?,
             [3, i, 0, 0] if i < own => Row::Not(a),
             [4, i, j, 0] if i < own && j < own => Row::And(a, b),
             [5, i, j, k] if i < own && j < own && k < own => Row::If(a, b, c),
@@ -445,8 +450,8 @@ fn checked_rule(words: &[u32], contents: &Contents) -> Result<Vec<Row>, u32> {
     Ok(rows)
 }
 
-fn checked_equation(a: Term, b: Term, n: u32, numbers: &HashMap<[u32; 2], u32>) -> Result<Row, u32> {
-    if !a.within_limits(n) || !b.within_limits(n) {
+fn checked_equation(a: Term, b: Term, contents: &Contents, numbers: &HashMap<[u32; 2], u32>) -> Result<Row, u32> {
+    if !a.within(contents.limits, contents.n) || !b.within(contents.limits, contents.n) {
         return Err(RULE_TERM);
     }
     match simplified(a, b) {
@@ -641,8 +646,8 @@ impl LeastSearch<'_> {
 // The operations
 // ---------------------------------------------------------------------------------------------------------------------
 
-fn open(n: u32, order: u32, list: &[u32], store: &mut [u32]) -> Result<u32, u32> {
-    let questions = checked_list(n, order, list)?;
+fn open(limits: &Limits, n: u32, order: u32, list: &[u32], store: &mut [u32]) -> Result<u32, u32> {
+    let questions = checked_list(limits, n, order, list)?;
     let end = HEADING + list.len();
     if store.len() < end {
         return Err(STORE_TOO_SHORT);
@@ -653,8 +658,8 @@ fn open(n: u32, order: u32, list: &[u32], store: &mut [u32]) -> Result<u32, u32>
     Ok(0)
 }
 
-fn build(store: &mut [u32], rule: &[u32]) -> Result<u32, u32> {
-    let mut contents = Contents::of(store)?;
+fn build(limits: &Limits, store: &mut [u32], rule: &[u32]) -> Result<u32, u32> {
+    let mut contents = Contents::within(limits, store)?;
     let rows = checked_rule(rule, &contents)?;
     let meaning = ByRows::new(rows);
     let whole = meaning.unanswered();
@@ -747,7 +752,7 @@ fn write_back(store: &[u32], a: u32, rule: &mut [u32]) -> Result<u32, u32> {
 impl Operations for Fast {
     fn simplify(&self, a: u32, b: u32) -> SimplifyAnswer {
         let (a, b) = (Term::of_word(a), Term::of_word(b));
-        if !a.within_limits(MOST_FIELDS) || !b.within_limits(MOST_FIELDS) {
+        if !a.within(&INSTITUTE, INSTITUTE.fields) || !b.within(&INSTITUTE, INSTITUTE.fields) {
             return SimplifyAnswer { number: RULE_TERM, ..SimplifyAnswer::default() };
         }
         match simplified(a, b) {
@@ -761,11 +766,19 @@ impl Operations for Fast {
     }
 
     fn open(&self, n: u32, order: u32, list: &[u32], store: &mut [u32]) -> Answer {
-        open(n, order, list, store).into()
+        open(&INSTITUTE, n, order, list, store).into()
     }
 
     fn build(&self, store: &mut [u32], rule: &[u32]) -> Answer {
-        build(store, rule).into()
+        build(&INSTITUTE, store, rule).into()
+    }
+
+    fn logger_open(&self, n: u32, order: u32, list: &[u32], store: &mut [u32]) -> Answer {
+        open(&LOGGER, n, order, list, store).into()
+    }
+
+    fn logger_build(&self, store: &mut [u32], rule: &[u32]) -> Answer {
+        build(&LOGGER, store, rule).into()
     }
 
     fn negate(&self, store: &mut [u32], a: u32) -> Answer {

@@ -1,4 +1,4 @@
-//! The eleven operations, written a second time from documents 01 and 02, from document 000 where these cite it, and from nothing else.
+//! The thirteen operations, written a second time from documents 01 and 02, from document 000 where these cite it, and from nothing else.
 //!
 //! The proved library keeps the facts of a path as classes of fields with offsets. Nothing here does:
 //!
@@ -33,6 +33,22 @@ pub const MOST_CHECKED_STEPS: u32 = 4095;
 pub const MOST_QUESTIONS: usize = 20;
 /// The largest number of entries in a store, and in a table of diagrams.
 pub const MOST_ENTRIES: usize = 4096;
+
+/// How large a store can be. Opening, the test of a store and building are written once, for any limits up to the largest numbers above.
+#[derive(Clone, Copy, Debug, PartialEq, Eq)]
+pub struct Limits {
+    pub fields: u32,
+    pub steps: u32,
+    pub questions: usize,
+    pub entries: usize,
+}
+
+/// The institute's limits, document 01's. They are the largest numbers.
+pub const INSTITUTE: Limits =
+    Limits { fields: MOST_FIELDS, steps: MOST_STEPS, questions: MOST_QUESTIONS, entries: MOST_ENTRIES };
+/// The limits of the deck logger's book, document 02's (xi), which leaves the steps as they are.
+pub const LOGGER: Limits = Limits { fields: 6, steps: MOST_STEPS, questions: 8, entries: 200 };
+
 /// The largest number of rows of a rule table.
 pub const MOST_ROWS: usize = 256;
 /// The words of a store before its list: n, the number of questions, the entries used, the order.
@@ -138,11 +154,13 @@ pub struct SimplifyAnswer {
     pub gap: i32,
 }
 
-/// The eleven operations over lent words. Each way of doing them has this form, so that they can be compared call by call.
+/// The thirteen operations over lent words. Each way of doing them has this form, so that they can be compared call by call.
 pub trait Operations {
     fn simplify(&self, a: u32, b: u32) -> SimplifyAnswer;
     fn open(&self, n: u32, order: u32, list: &[u32], store: &mut [u32]) -> Answer;
     fn build(&self, store: &mut [u32], rule: &[u32]) -> Answer;
+    fn logger_open(&self, n: u32, order: u32, list: &[u32], store: &mut [u32]) -> Answer;
+    fn logger_build(&self, store: &mut [u32], rule: &[u32]) -> Answer;
     fn negate(&self, store: &mut [u32], a: u32) -> Answer;
     fn join(&self, store: &mut [u32], a: u32, b: u32) -> Answer;
     fn choose(&self, store: &mut [u32], a: u32, b: u32, c: u32) -> Answer;
@@ -170,7 +188,8 @@ impl Term {
         self.steps * 32 + self.field
     }
 
-    pub fn within_limits(self, n: u32) -> bool {
-        self.field <= n && self.steps <= MOST_STEPS
+    /// Whether the field is one of n, or zero, and the steps are within the limits.
+    pub fn within(self, limits: &Limits, n: u32) -> bool {
+        self.field <= n && self.steps <= limits.steps
     }
 }

@@ -5,9 +5,8 @@ use std::collections::{BTreeMap, BTreeSet};
 use std::rc::Rc;
 
 use crate::refusal::*;
-use crate::{trees, Answer, Operations, SimplifyAnswer, Term};
-use crate::{ALWAYS, FIRST_ENTRY, HEADING, MOST_ENTRIES, MOST_FIELDS, MOST_QUESTIONS, MOST_ROWS, NEVER};
-use crate::{FIELDS_FIRST, LEFT_FIRST};
+use crate::{trees, Answer, Limits, Operations, SimplifyAnswer, Term, INSTITUTE, LOGGER};
+use crate::{ALWAYS, FIELDS_FIRST, FIRST_ENTRY, HEADING, LEFT_FIRST, MOST_ROWS, NEVER};
 
 /// The answers to all questions of a list: bit i is the truth of question i, counted from 0.
 pub type Truths = u32;
@@ -252,8 +251,8 @@ fn older_rank(question: &Question) -> (u32, u32, u32, u32) {
 }
 
 /// The list's questions, or the first of 11 to 18 that it meets.
-fn checked_list(n: u32, order: u32, words: &[u32]) -> Result<Vec<Question>, u32> {
-    if n > MOST_FIELDS {
+fn checked_list(limits: &Limits, n: u32, order: u32, words: &[u32]) -> Result<Vec<Question>, u32> {
+    if n > limits.fields {
         return Err(TOO_MANY_FIELDS);
     }
     let rank = match order {
@@ -264,13 +263,13 @@ fn checked_list(n: u32, order: u32, words: &[u32]) -> Result<Vec<Question>, u32>
     if !words.len().is_multiple_of(2) {
         return Err(ODD_LIST);
     }
-    if words.len() / 2 > MOST_QUESTIONS {
+    if words.len() / 2 > limits.questions {
         return Err(TOO_MANY_QUESTIONS);
     }
     let mut questions: Vec<Question> = Vec::new();
     for pair in words.chunks(2) {
         let question = (Term::of_word(pair[0]), Term::of_word(pair[1]));
-        if !question.0.within_limits(n) || !question.1.within_limits(n) {
+        if !question.0.within(limits, n) || !question.1.within(limits, n) {
             return Err(LIST_TERM);
         }
         if simplified(question.0, question.1) != Simplified::Question(question) {
@@ -288,33 +287,34 @@ fn checked_list(n: u32, order: u32, words: &[u32]) -> Result<Vec<Question>, u32>
 // The store
 // ---------------------------------------------------------------------------------------------------------------------
 
-/// A store's words taken apart.
+/// A store's words taken apart, and the limits that they keep.
 struct Contents {
+    limits: Limits,
     n: u32,
     questions: Vec<Question>,
     entries: Vec<[u32; 3]>,
     room: usize,
 }
 
-/// The contents of a sound store; otherwise 22.
-fn contents(store: &[u32]) -> Result<Contents, u32> {
-    sound_contents(store).ok_or(NOT_SOUND)
+/// The contents of a store that is sound within the limits; otherwise 22.
+fn contents(limits: &Limits, store: &[u32]) -> Result<Contents, u32> {
+    sound_contents(limits, store).ok_or(NOT_SOUND)
 }
 
-fn sound_contents(store: &[u32]) -> Option<Contents> {
+fn sound_contents(limits: &Limits, store: &[u32]) -> Option<Contents> {
     if store.len() < HEADING {
         return None;
     }
     let n = store[0];
-    let q = usize::try_from(store[1]).ok().filter(|q| *q <= MOST_QUESTIONS)?;
+    let q = usize::try_from(store[1]).ok().filter(|q| *q <= limits.questions)?;
     let used = store[2] as usize;
     let order = store[3];
     let list_end = HEADING + 2 * q;
     if store.len() < list_end {
         return None;
     }
-    let questions = checked_list(n, order, &store[HEADING..list_end]).ok()?;
-    let room = ((store.len() - list_end) / 3).min(MOST_ENTRIES);
+    let questions = checked_list(limits, n, order, &store[HEADING..list_end]).ok()?;
+    let room = ((store.len() - list_end) / 3).min(limits.entries);
     if used > room {
         return None;
     }
@@ -338,7 +338,7 @@ fn sound_contents(store: &[u32]) -> Option<Contents> {
         }
     }
     let unused_are_zero = store[entries_end..].iter().all(|word| *word == 0);
-    unused_are_zero.then_some(Contents { n, questions, entries, room })
+    unused_are_zero.then_some(Contents { limits: *limits, n, questions, entries, room })
 }
 
 impl Contents {
@@ -436,7 +436,7 @@ enum Row {
 }
 
 /// The rows of a rule table, or the first of 31 to 36 that it meets.
-fn checked_rule(words: &[u32], n: u32, questions: &[Question]) -> Result<Vec<Row>, u32> {
+fn checked_rule(words: &[u32], contents: &Contents) -> Result<Vec<Row>, u32> {
     if words.is_empty() {
         return Err(NO_ROWS);
     }
@@ -448,12 +448,12 @@ fn checked_rule(words: &[u32], n: u32, questions: &[Question]) -> Result<Vec<Row
     }
     let mut rows = Vec::new();
     for (i, row) in words.chunks(4).enumerate() {
-        rows.push(checked_row([row[0], row[1], row[2], row[3]], i, n, questions)?);
+        rows.push(checked_row([row[0], row[1], row[2], row[3]], i, contents)?);
     }
     Ok(rows)
 }
 
-fn checked_row([kind, a, b, c]: [u32; 4], own: usize, n: u32, questions: &[Question]) -> Result<Row, u32> {
+fn checked_row([kind, a, b, c]: [u32; 4], own: usize, contents: &Contents) -> Result<Row, u32> {
     let reference = |column: u32| if (column as usize) < own { Ok(column as usize) } else { Err(BAD_ROW) };
     let unused = |column: u32| if column == 0 { Ok(()) } else { Err(BAD_ROW) };
     match kind {
@@ -465,7 +465,7 @@ fn checked_row([kind, a, b, c]: [u32; 4], own: usize, n: u32, questions: &[Quest
         }
         2 => {
             unused(c)?;
-            checked_equation(Term::of_word(a), Term::of_word(b), n, questions)
+            checked_equation(Term::of_word(a), Term::of_word(b), contents)
         }
         3 => {
             unused(b)?;
@@ -481,8 +481,8 @@ fn checked_row([kind, a, b, c]: [u32; 4], own: usize, n: u32, questions: &[Quest
     }
 }
 
-fn checked_equation(a: Term, b: Term, n: u32, questions: &[Question]) -> Result<Row, u32> {
-    if !a.within_limits(n) || !b.within_limits(n) {
+fn checked_equation(a: Term, b: Term, Contents { limits, n, questions, .. }: &Contents) -> Result<Row, u32> {
+    if !a.within(limits, *n) || !b.within(limits, *n) {
         return Err(RULE_TERM);
     }
     match simplified(a, b) {
@@ -513,8 +513,8 @@ fn row_holds(rows: &[Row], at: usize, truths: Truths) -> bool {
 // The operations
 // ---------------------------------------------------------------------------------------------------------------------
 
-fn open(n: u32, order: u32, list: &[u32], store: &mut [u32]) -> Result<u32, u32> {
-    checked_list(n, order, list)?;
+fn open(limits: &Limits, n: u32, order: u32, list: &[u32], store: &mut [u32]) -> Result<u32, u32> {
+    checked_list(limits, n, order, list)?;
     if store.len() < HEADING + list.len() {
         return Err(STORE_TOO_SHORT);
     }
@@ -527,27 +527,27 @@ fn open(n: u32, order: u32, list: &[u32], store: &mut [u32]) -> Result<u32, u32>
 }
 
 impl Plain {
-    fn try_build(&self, store: &mut [u32], rule: &[u32]) -> Result<u32, u32> {
-        let contents = contents(store)?;
-        let rows = checked_rule(rule, contents.n, &contents.questions)?;
+    fn try_build(&self, limits: &Limits, store: &mut [u32], rule: &[u32]) -> Result<u32, u32> {
+        let contents = contents(limits, store)?;
+        let rows = checked_rule(rule, &contents)?;
         self.add(store, &contents, &|truths| row_holds(&rows, rows.len() - 1, truths))
     }
 
     fn try_negate(&self, store: &mut [u32], a: u32) -> Result<u32, u32> {
-        let contents = contents(store)?;
+        let contents = contents(&INSTITUTE, store)?;
         contents.check_handle(a)?;
         self.add(store, &contents, &|truths| !contents.holds(a, truths))
     }
 
     fn try_join(&self, store: &mut [u32], a: u32, b: u32) -> Result<u32, u32> {
-        let contents = contents(store)?;
+        let contents = contents(&INSTITUTE, store)?;
         contents.check_handle(a)?;
         contents.check_handle(b)?;
         self.add(store, &contents, &|truths| contents.holds(a, truths) && contents.holds(b, truths))
     }
 
     fn try_choose(&self, store: &mut [u32], a: u32, b: u32, c: u32) -> Result<u32, u32> {
-        let contents = contents(store)?;
+        let contents = contents(&INSTITUTE, store)?;
         contents.check_handle(a)?;
         contents.check_handle(b)?;
         contents.check_handle(c)?;
@@ -555,7 +555,7 @@ impl Plain {
     }
 
     fn try_verdict(&self, store: &[u32], a: u32) -> Result<u32, u32> {
-        let contents = contents(store)?;
+        let contents = contents(&INSTITUTE, store)?;
         contents.check_handle(a)?;
         let possible = self.possible(contents.n, &contents.questions);
         let sometimes_true = possible.iter().any(|truths| contents.holds(a, *truths));
@@ -568,7 +568,7 @@ impl Plain {
     }
 
     fn try_example(&self, store: &[u32], a: u32, sheet: &mut [u16]) -> Result<u32, u32> {
-        let contents = contents(store)?;
+        let contents = contents(&INSTITUTE, store)?;
         contents.check_handle(a)?;
         if sheet.len() != contents.n as usize {
             return Err(SLICE_LENGTH);
@@ -607,7 +607,7 @@ fn example_by_counting(contents: &Contents, a: u32) -> Option<Vec<u64>> {
 }
 
 fn read(store: &[u32], a: u32, sheet: &[u16]) -> Result<u32, u32> {
-    let contents = contents(store)?;
+    let contents = contents(&INSTITUTE, store)?;
     contents.check_handle(a)?;
     if sheet.len() != contents.n as usize {
         return Err(SLICE_LENGTH);
@@ -630,7 +630,7 @@ fn reachable(contents: &Contents, a: u32) -> BTreeSet<u32> {
 }
 
 fn write_back(store: &[u32], a: u32, rule: &mut [u32]) -> Result<u32, u32> {
-    let contents = contents(store)?;
+    let contents = contents(&INSTITUTE, store)?;
     contents.check_handle(a)?;
     let reachable: Vec<u32> = reachable(&contents, a).into_iter().collect();
     let row_of = |handle: u32| match reachable.binary_search(&handle) {
@@ -661,7 +661,7 @@ fn write_back(store: &[u32], a: u32, rule: &mut [u32]) -> Result<u32, u32> {
 impl Operations for Plain {
     fn simplify(&self, a: u32, b: u32) -> SimplifyAnswer {
         let (a, b) = (Term::of_word(a), Term::of_word(b));
-        if !a.within_limits(MOST_FIELDS) || !b.within_limits(MOST_FIELDS) {
+        if !a.within(&INSTITUTE, INSTITUTE.fields) || !b.within(&INSTITUTE, INSTITUTE.fields) {
             return SimplifyAnswer { number: RULE_TERM, ..SimplifyAnswer::default() };
         }
         match simplified(a, b) {
@@ -678,11 +678,19 @@ impl Operations for Plain {
     }
 
     fn open(&self, n: u32, order: u32, list: &[u32], store: &mut [u32]) -> Answer {
-        open(n, order, list, store).into()
+        open(&INSTITUTE, n, order, list, store).into()
     }
 
     fn build(&self, store: &mut [u32], rule: &[u32]) -> Answer {
-        self.try_build(store, rule).into()
+        self.try_build(&INSTITUTE, store, rule).into()
+    }
+
+    fn logger_open(&self, n: u32, order: u32, list: &[u32], store: &mut [u32]) -> Answer {
+        open(&LOGGER, n, order, list, store).into()
+    }
+
+    fn logger_build(&self, store: &mut [u32], rule: &[u32]) -> Answer {
+        self.try_build(&LOGGER, store, rule).into()
     }
 
     fn negate(&self, store: &mut [u32], a: u32) -> Answer {

@@ -37,10 +37,13 @@
 //! # Ok::<(), sheet::Refusal>(())
 //! ```
 //!
-//! Diagrams that another tool has made are checked as a [`DiagramTable`], without a store.
+//! Diagrams that another tool has made are checked as a [`DiagramTable`], without a store. The deck logger has smaller
+//! [limits](Limits): it opens and builds a [`LoggerStore`], which a [`Store`] can be made of.
 
 #![warn(missing_docs)]
 
+mod limits;
+mod logger;
 mod normal_form;
 mod order;
 mod refusal;
@@ -49,6 +52,8 @@ mod store;
 mod term;
 pub mod words;
 
+pub use limits::Limits;
+pub use logger::LoggerStore;
 pub use normal_form::{DiagramEntry, DiagramTable};
 pub use order::Order;
 pub use refusal::Refusal;

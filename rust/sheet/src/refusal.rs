@@ -17,11 +17,11 @@ use std::fmt;
 #[derive(Clone, Copy, Debug, PartialEq, Eq, Hash)]
 #[repr(u32)]
 pub enum Refusal {
-    /// 11: more than 16 fields.
+    /// 11: more than 16 fields, in a [`LoggerStore`](crate::LoggerStore) more than 6.
     TooManyFields = 11,
     /// 12: an odd number of list words.
     OddList = 12,
-    /// 13: more than 20 questions.
+    /// 13: more than 20 questions, in a [`LoggerStore`](crate::LoggerStore) more than 8.
     TooManyQuestions = 13,
     /// 14: a field above n or steps above 1,023 in the list.
     ListTerm = 14,
@@ -34,7 +34,7 @@ pub enum Refusal {
     UnknownOrder = 18,
     /// 21: a store shorter than its heading and list.
     StoreTooShort = 21,
-    /// 22: words that aren't a sound store.
+    /// 22: words that aren't a sound store, or that are one beyond the limits of a [`LoggerStore`](crate::LoggerStore) and were to be one.
     NotSound = 22,
     /// 23: a sheet that isn't n counts long, or too few words to write a rule back.
     SliceLength = 23,
@@ -52,7 +52,8 @@ pub enum Refusal {
     NotListed = 36,
     /// 41: a handle that the store doesn't have.
     NoSuchHandle = 41,
-    /// 51: more new entries than there is room for.
+    /// 51: more new entries than there is room for, by the store's words, or by the limit of 4,096 entries, in a
+    /// [`LoggerStore`](crate::LoggerStore) of 200.
     NoRoom = 51,
     /// 52: an example of a rule that nothing satisfies.
     NothingSatisfies = 52,
@@ -125,9 +126,9 @@ impl Refusal {
 impl fmt::Display for Refusal {
     fn fmt(&self, f: &mut fmt::Formatter<'_>) -> fmt::Result {
         f.write_str(match self {
-            Refusal::TooManyFields => "a sheet has at most 16 fields",
+            Refusal::TooManyFields => "a sheet has at most 16 fields, and one of the deck logger at most 6",
             Refusal::OddList => "the list has an odd number of words, but each question takes two",
-            Refusal::TooManyQuestions => "a list has at most 20 questions",
+            Refusal::TooManyQuestions => "a list has at most 20 questions, and one of the deck logger at most 8",
             Refusal::ListTerm => "a term of the list has a field above the sheet's last one, or more than 1,023 steps",
             Refusal::NotSimplified => "an equation of the list is not a simplified question",
             Refusal::NotAscending => {
@@ -139,7 +140,9 @@ impl fmt::Display for Refusal {
                  field, right steps)"
             }
             Refusal::StoreTooShort => "the store has too few words for its heading and its list of questions",
-            Refusal::NotSound => "the words are not a sound store",
+            Refusal::NotSound => {
+                "the words are not a sound store, or they are for the deck logger and have more than 6 fields, 8 questions or 200 entries"
+            }
             Refusal::SliceLength => "the sheet does not have one count for each field, or the rule does not fit the words lent for it",
             Refusal::NoRows => "the rule has no rows",
             Refusal::BrokenRow => "the rule's words are not whole rows of four",
@@ -150,7 +153,10 @@ impl fmt::Display for Refusal {
             Refusal::RuleTerm => "a term has a field above the sheet's last one, or more than 1,023 steps",
             Refusal::NotListed => "an equation of the rule is not on the store's list of questions",
             Refusal::NoSuchHandle => "the store has no such handle",
-            Refusal::NoRoom => "the store has no room for the rule's diagram",
+            Refusal::NoRoom => {
+                "the store has no room for the rule's diagram: its words are too few, or its entries would be more than 4,096, in a store \
+                 of the deck logger more than 200"
+            }
             Refusal::NothingSatisfies => "no sheet satisfies the rule",
             Refusal::TooLargeToWrite => "the rule takes more than 256 rows to write",
             Refusal::TableShape => {

@@ -1,6 +1,6 @@
 use crate::refusal::outcome;
 use crate::words::{self, Answer};
-use crate::{Equation, Order, Question, Refusal, Rule, RuleTable};
+use crate::{Equation, Limits, Order, Question, Refusal, Rule, RuleTable};
 
 /// A diagram in a store or in a [`DiagramTable`](crate::DiagramTable). It means something only in the one that gave it.
 #[derive(Clone, Copy, Debug, PartialEq, Eq, Hash, PartialOrd, Ord)]
@@ -83,10 +83,13 @@ pub struct Store {
 
 /// The words before the list: fields, questions, used entries, order.
 const HEADING: usize = 4;
-/// The most entries that a store has room for.
-const MOST_ENTRIES: usize = 4096;
 /// The most words of a rule that is written back: 256 rows of four.
 const MOST_RULE_WORDS: usize = 1024;
+
+/// One of the library's functions that open a store: the institute's or the deck logger's.
+type Opening = fn(u32, u32, &[u32], &mut [u32]) -> Answer;
+/// One of the library's functions that build a rule.
+type Building = fn(&mut [u32], &[u32]) -> Answer;
 
 impl Store {
     /// Opens a store for sheets of `fields` fields and a list of up to 20 questions, which stand in the order given, with room for `room`
@@ -97,13 +100,28 @@ impl Store {
         Q: IntoIterator,
         Q::Item: Into<Equation>,
     {
+        Store::open_by(words::open, fields, order, questions, room.min(Limits::INSTITUTE.entries))
+    }
+
+    /// Opens a store by one of the library's openings, on as many words as `room` entries take.
+    pub(crate) fn open_by<Q>(
+        opening: Opening,
+        fields: u32,
+        order: Order,
+        questions: Q,
+        room: usize,
+    ) -> Result<Store, Refusal>
+    where
+        Q: IntoIterator,
+        Q::Item: Into<Equation>,
+    {
         let list: Vec<u32> = questions
             .into_iter()
             .map(Into::into)
             .flat_map(|Equation { left, right }| [left.word(), right.word()])
             .collect();
-        let mut words = vec![0; HEADING + list.len() + 3 * room.min(MOST_ENTRIES)];
-        result(words::open(fields, order.number(), &list, &mut words))?;
+        let mut words = vec![0; HEADING + list.len() + 3 * room];
+        result(opening(fields, order.number(), &list, &mut words))?;
         Ok(Store { words })
     }
 
@@ -149,7 +167,12 @@ impl Store {
 
     /// How many entries there is room for, the used ones included.
     pub fn room(&self) -> usize {
-        ((self.words.len() - self.entries_start()) / 3).min(MOST_ENTRIES)
+        self.room_within(Limits::INSTITUTE)
+    }
+
+    /// How many entries there is room for within the limits.
+    pub(crate) fn room_within(&self, limits: Limits) -> usize {
+        ((self.words.len() - self.entries_start()) / 3).min(limits.entries)
     }
 
     /// The entry that a handle names, if it isn't never or always.
@@ -178,7 +201,12 @@ impl Store {
 
     /// Adds the diagram of a rule given as a table.
     pub fn build_table(&mut self, table: &RuleTable) -> Result<Handle, Refusal> {
-        handle(words::build(&mut self.words, &table.to_words()))
+        self.build_table_by(words::build, table)
+    }
+
+    /// Adds the diagram of a rule by one of the library's ways to build.
+    pub(crate) fn build_table_by(&mut self, building: Building, table: &RuleTable) -> Result<Handle, Refusal> {
+        handle(building(&mut self.words, &table.to_words()))
     }
 
     /// Adds the diagram of "not a".

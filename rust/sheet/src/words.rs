@@ -1,8 +1,8 @@
-//! The eleven operations on lent words, as C has them but with slices: no call can be given overlapping, dangling or wrongly measured memory.
+//! The thirteen operations on lent words, as C has them but with slices: no call can be given overlapping, dangling or wrongly measured memory.
 //!
 //! Every call is safe on any words whatever: the library is proved for all of them, and refuses what it can't work with. What the
-//! words and numbers mean stands at [`Store`](crate::Store), [`Order`](crate::Order), [`RuleTable`](crate::RuleTable),
-//! [`DiagramTable`](crate::DiagramTable) and [`Refusal`](crate::Refusal).
+//! words and numbers mean stands at [`Store`](crate::Store), [`LoggerStore`](crate::LoggerStore), [`Order`](crate::Order),
+//! [`RuleTable`](crate::RuleTable), [`DiagramTable`](crate::DiagramTable) and [`Refusal`](crate::Refusal).
 //!
 //! ```
 //! use sheet::words;
@@ -62,6 +62,15 @@ mod c {
             store_len: usize,
         ) -> Answer;
         pub fn sheet_build(store: *mut u32, store_len: usize, rule: *const u32, rule_len: usize) -> Answer;
+        pub fn sheet_logger_open(
+            n: u32,
+            order: u32,
+            list: *const u32,
+            list_len: usize,
+            store: *mut u32,
+            store_len: usize,
+        ) -> Answer;
+        pub fn sheet_logger_build(store: *mut u32, store_len: usize, rule: *const u32, rule_len: usize) -> Answer;
         pub fn sheet_negate(store: *mut u32, store_len: usize, a: u32) -> Answer;
         pub fn sheet_join(store: *mut u32, store_len: usize, a: u32, b: u32) -> Answer;
         pub fn sheet_choose(store: *mut u32, store_len: usize, a: u32, b: u32, c: u32) -> Answer;
@@ -93,6 +102,27 @@ pub fn open(n: u32, order: u32, list: &[u32], store: &mut [u32]) -> Answer {
 pub fn build(store: &mut [u32], rule: &[u32]) -> Answer {
     // SAFETY: pointers and lengths are those of borrowed slices.
     unsafe { c::sheet_build(store.as_mut_ptr(), store.len(), rule.as_ptr(), rule.len()) }
+}
+
+/// Opens a store of the deck logger, with its smaller limits of fields and questions.
+///
+/// ```
+/// use sheet::words;
+///
+/// let mut store = [0; 4];
+/// assert_eq!(words::logger_open(7, 0, &[], &mut store).number, 11);
+/// assert_eq!(words::logger_open(6, 0, &[], &mut store).number, 0);
+/// assert_eq!(store, [6, 0, 0, 0]);
+/// ```
+pub fn logger_open(n: u32, order: u32, list: &[u32], store: &mut [u32]) -> Answer {
+    // SAFETY: pointers and lengths are those of borrowed slices.
+    unsafe { c::sheet_logger_open(n, order, list.as_ptr(), list.len(), store.as_mut_ptr(), store.len()) }
+}
+
+/// Adds the finished diagram of a rule table to a store that is within the deck logger's limits. The result is its handle.
+pub fn logger_build(store: &mut [u32], rule: &[u32]) -> Answer {
+    // SAFETY: pointers and lengths are those of borrowed slices.
+    unsafe { c::sheet_logger_build(store.as_mut_ptr(), store.len(), rule.as_ptr(), rule.len()) }
 }
 
 /// Adds the finished diagram of "not a". The result is its handle.

@@ -1,0 +1,19 @@
+-- A list of calls on one store of which each is made within limits of its own: the logger's builds at sea and the institute's calls ashore.
+use mathlib.Core.List.{List, [], _∷_}
+use Rattle.logger.specs.SmallerLimits.{Smaller}
+use Rattle.operations.specs.Handles.{Call, Books, after}
+use Rattle.terms.specs.declared.limits.Limits.{Limits}
+
+pub record CallWithin : Type 0 where
+  pub limits : Limits
+  pub call : Call
+
+-- the calls in turn, as in the handle law's run
+unfoldable pub run-within : Books → List CallWithin → Books
+run-within b [] = b
+run-within b (c ∷ cs) = run-within (after (c .limits) b (c .call)) cs
+
+-- the limits of each call are no larger than these
+abbrev pub EachSmaller : Limits → List CallWithin → Type 0
+EachSmaller larger [] = Unit {0}
+EachSmaller larger (c ∷ cs) = Smaller (c .limits) larger × EachSmaller larger cs
