@@ -3,4 +3,11 @@ pub mod InsertSame
 pub mod CallOnSound
 pub mod CallSame
 pub mod FaultSame
+pub mod TurnsOfRun
 pub mod SameCalls
+pub mod LargerLimits
+pub mod LargerCalls
+pub mod MixedLaw
+pub mod BeyondLimits
+pub mod LoggerLaws
+pub mod LoggerRun

@@ -5,6 +5,7 @@ use mathlib.Core.Path.{_≡_, refl, sym, ap, ap₂, _∙_}
 use mathlib.Core.Logic.{_≢_}
 use mathlib.Core.List.{List, [], _∷_, _++_, map}
 use native.Mathlib.Omega.{arith}
+use native.Mathlib.Decide.{decLt, ℕ-discrete}
 use lib.ListN.{length, getD, take, drop, replicate, length-take, length-drop, List·getD-append}
 use lib.Seq.{getD-take, getD-drop, ext-getD}
 use Rattle.logger.specs.SameBooks.{entry-words, SameBooks, AcceptedAlike, SameRuns}
@@ -19,8 +20,9 @@ use Rattle.store.specs.Open.{opening, opened-words}
 use Rattle.store.specs.SoundParts.{Sound}
 use Rattle.terms.specs.declared.limits.Limits.{Limits}
 use Rattle.operations.proofs.HandleLaw.{opened-kept}
-use Rattle.operations.proofs.RunLater.{call-later}
+use Rattle.operations.proofs.RunLater.{call-later, run-later}
 use Rattle.store.proofs.OpenAccepts.{accepts}
+use Rattle.store.proofs.OpenedWords.{opened-length}
 use Rattle.store.proofs.SoundFacts.{used-fits}
 use Rattle.store.proofs.StoreWords.{fields-agree, questions-agree, orders-agree, list-agrees}
 use Rattle.logger.proofs.CallSame.{AnsweredSame, result-same, number-same}
@@ -98,6 +100,20 @@ books-same a =
       same-entries = entry-words-same (a .sound) (a .sound′) (a .entries);
     }
 
+-- every word, where there are as many: the unused ones are zeros
+words-same : {limits limits′ : Limits} {b b′ : Books} → Alike limits limits′ b b′ → length (b .words) ≡ length (b′ .words) → b .words ≡ b′ .words
+words-same {b = b} {b′} a long =
+    let s = b .words in
+    let s′ = b′ .words in
+    let same = a .entries in
+    ext-getD 0 s s′ long (λ k _. elim (ℕ-discrete k used-place) [
+      | yes d ↦ ap (λ x. getD s x 0) d ∙ sym (same .same-used) ∙ ap (λ x. getD s′ x 0) (sym d)
+      | no n ↦ elim (decLt k (entries-start s + 3 * used s)) [
+        | yes l ↦ sym (same .agree .word k l n)
+        | no l ↦ a .sound .unused-zero k (omega arith) ∙ sym (a .sound′ .unused-zero k (omega (arith, same .same-used, questions-agree (same .agree))))
+      ]
+    ])
+
 -- ---- the theorem
 -- any n, order and list, lent stores of any two lengths, opened at any two limits
 module _ (limits limits′ : Limits) (n order : ℕ) (list s s′ : List ℕ)
@@ -125,3 +141,10 @@ module _ (limits limits′ : Limits) (n order : ℕ) (list s s′ : List ℕ)
       → map built-number (answers-to limits books calls) ≡ map built-number (answers-to limits′ books′ calls)
   same-numbers steps calls alike =
       run-same built-number limits limits′ (numbers-same limits limits′ steps) calls books books′ opened-alike alike .0
+
+  -- Where the lengths are the same too, so is every word: the unused ones are zeros.
+  pub same-words : length s ≡ length s′ → (calls : List Call) → AcceptedAlike limits limits′ books books′ calls → run limits books calls .words ≡ run limits′ books′ calls .words
+  same-words long calls alike =
+      let a = run-same built-result limits limits′ (results-same limits limits′) calls books books′ opened-alike alike .1 in
+      words-same a (run-later books (opened-alike .sound) calls .length-kept ∙ opened-length n order list (length s) (accepts limits n order list (length s) e .fits)
+      ∙ long ∙ sym (run-later books′ (opened-alike .sound′) calls .length-kept ∙ opened-length n order list (length s′) (accepts limits′ n order list (length s′) e′ .fits)))

@@ -1,4 +1,4 @@
 pub mod Turns
 pub mod SameBooks
 pub mod SmallerLimits
-pub mod Ashore
+pub mod MixedCalls
