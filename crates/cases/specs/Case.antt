@@ -13,11 +13,12 @@ use Rattle.operations.specs.declared.answer.Built.{Built}
 use Rattle.operations.specs.Built.{built-number, built-result}
 use Rattle.operations.specs.Operations as operation
 use Rattle.reading.specs.Read.{read-sheet, read-number, read-result}
+use Rattle.store.specs.declared.answer.Opened.{Opened}
 use Rattle.store.specs.Open.{open-store}
 use Rattle.store.specs.Opened.{open-number}
 use Rattle.store.specs.Outcome as specs
 use Rattle.terms.specs.declared.simplification.SimplifyAnswer.{SimplifyAnswer}
-use Rattle.terms.specs.Limits.{term-limits, store-limits}
+use Rattle.terms.specs.Limits.{term-limits, store-limits, logger-limits}
 use Rattle.terms.specs.Simplify.{simplify-words, answer}
 use Rattle.verdicts.specs.Verdict as verdicts
 use Rattle.verdicts.specs.Verdict.{verdict-number, verdict-result}
@@ -32,6 +33,9 @@ pub data CaseCall : Type 0 where
   open-with : ℕ → ℕ → List ℕ → CaseCall
   -- the words of a rule table
   build : List ℕ → CaseCall
+  -- open and build by the logger, with the same arguments
+  logger-open : ℕ → ℕ → List ℕ → CaseCall
+  logger-build : List ℕ → CaseCall
   -- handles
   negate : ℕ → CaseCall
   join : ℕ → ℕ → CaseCall
@@ -63,6 +67,10 @@ pub data CaseOutcome : Type 0 where
 abbrev simplified-as : SimplifyAnswer → CaseOutcome
 simplified-as a = simplified (a .number) (a .result) (a .left) (a .right) (a .gap)
 
+-- what an opening leaves, with the list
+abbrev opened-as : specs.Outcome Opened → List ℕ → CaseOutcome
+opened-as o list = answered (open-number (o .answer)) 0 (o .words) list
+
 -- what a call that may add entries leaves, with the other words lent
 abbrev built-as : specs.Outcome Built → List ℕ → CaseOutcome
 built-as o lent = answered (built-number (o .answer)) (built-result (o .answer)) (o .words) lent
@@ -71,10 +79,10 @@ built-as o lent = answered (built-number (o .answer)) (built-result (o .answer))
 abbrev pub outcomes : List ℕ → List CaseCall → List CaseOutcome
 outcomes s [] = []
 outcomes s (simplify l r ∷ calls) = simplified-as (answer (simplify-words term-limits l r)) ∷ outcomes s calls
-outcomes s (open-with n order list ∷ calls) =
-    let o = open-store store-limits n order list s in
-    answered (open-number (o .answer)) 0 (o .words) list ∷ outcomes (o .words) calls
+outcomes s (open-with n order list ∷ calls) = let o = open-store store-limits n order list s in opened-as o list ∷ outcomes (o .words) calls
 outcomes s (build table ∷ calls) = let o = operation.build store-limits s table in built-as o table ∷ outcomes (o .words) calls
+outcomes s (logger-open n order list ∷ calls) = let o = open-store logger-limits n order list s in opened-as o list ∷ outcomes (o .words) calls
+outcomes s (logger-build table ∷ calls) = let o = operation.build logger-limits s table in built-as o table ∷ outcomes (o .words) calls
 outcomes s (negate a ∷ calls) = let o = operation.negate store-limits s a in built-as o [] ∷ outcomes (o .words) calls
 outcomes s (join a b ∷ calls) = let o = operation.join store-limits s a b in built-as o [] ∷ outcomes (o .words) calls
 outcomes s (choose a b c ∷ calls) = let o = operation.choose store-limits s a b c in built-as o [] ∷ outcomes (o .words) calls

@@ -1,2 +1,3 @@
 pub mod Case
+pub mod LoggerTable
 pub mod Table

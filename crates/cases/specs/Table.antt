@@ -5,7 +5,8 @@ use mathlib.Core.List.{List, [], _∷_, _++_}
 use lib.IntN.{pos, negsuc}
 use lib.ListN.{replicate}
 use Rattle.operations.specs.ThreeEqual.{three-equal, last-equal, outer-equal, not-outer, after-case-6}
-use Rattle.cases.specs.Case.{simplify, open-with, build, negate, join, choose, read, write-back, verdict, example, check, ask-list-gap, simplified, answered, checked, gap-is, Case}
+use Rattle.cases.specs.LoggerTable.{logger-cases}
+use Rattle.cases.specs.Case.{simplify, open-with, build, logger-open, logger-build, negate, join, choose, read, write-back, verdict, example, check, ask-list-gap, simplified, answered, checked, gap-is, CaseCall, Case}
 
 -- S3(1) = S1(2) simplifies to 2 = S2(1): words 2, 65, gap 2.
 abbrev pub case-1 : Case
@@ -100,13 +101,13 @@ case-5-short = record { start = replicate 3 9; calls = open-with 0 0 [] ∷ []; 
 -- ---- n = 3, list 2 = 1, 3 = 1, 3 = 2
 -- Store of 22 words. Building 3 = 2 gives handle 5 and the words 3 3 4 0, 2 1 3 1 3 2, 2 1 0, 3 1 0, 2 0 3, 1 2 4. Case 7: then building 3 = 1
 -- gives handle 2; used stays 4. Case 8: 2 = 1 and 3 = 2 and not 3 = 1 is handle 0. The list stands in both orders, so that in the older one all is the
--- same but for word 3.
-abbrev pub cases-6-to-8 : ℕ → Case
-cases-6-to-8 order =
+-- same but for word 3. The logger's open and build leave the same as the others.
+abbrev pub cases-6-to-8 : (ℕ → ℕ → List ℕ → CaseCall) → (List ℕ → CaseCall) → ℕ → Case
+cases-6-to-8 opens builds order =
     let s = after-case-6 order in
     record {
       start = replicate 22 7;
-      calls = open-with 3 order three-equal ∷ build last-equal ∷ build outer-equal ∷ build not-outer ∷ [];
+      calls = opens 3 order three-equal ∷ builds last-equal ∷ builds outer-equal ∷ builds not-outer ∷ [];
       expected =
           answered 0 0 (3 ∷ 3 ∷ 0 ∷ order ∷ (three-equal ++ replicate 12 0)) three-equal
           ∷ answered 0 5 s last-equal ∷ answered 0 2 s outer-equal ∷ answered 0 0 s not-outer ∷ [];
@@ -447,8 +448,9 @@ check-limits = record {
 
 abbrev pub cases : List Case
 cases =
-    case-1 ∷ case-2 ∷ case-3 ∷ case-4 ∷ case-5-opened ∷ case-5-short ∷ cases-6-to-8 0 ∷ cases-6-to-8 1 ∷ case-6-short ∷ case-9 ∷ case-11 ∷ case-11-built ∷ case-12
+    case-1 ∷ case-2 ∷ case-3 ∷ case-4 ∷ case-5-opened ∷ case-5-short ∷ cases-6-to-8 open-with build 0 ∷ cases-6-to-8 open-with build 1 ∷ case-6-short ∷ case-9 ∷ case-11 ∷ case-11-built ∷ case-12
     ∷ steps-simplified ∷ steps-built ∷ steps-in-a-store ∷ steps-beyond-in-a-store
     ∷ check-shapes ∷ check-examples ∷ check-rule-8 ∷ check-rules-3-to-7 ∷ check-order ∷ check-terms ∷ check-handles
     ∷ check-differing-entries ∷ check-limits
-    ∷ orders-opened ∷ orders-compared ∷ orders-refused ∷ openings-refused ∷ rules-fields-first ∷ rules-left-first ∷ unknown-order-refused ∷ orders-in-a-store
+    ∷ orders-opened ∷ orders-compared ∷ orders-refused ∷ openings-refused ∷ rules-fields-first ∷ rules-left-first ∷ unknown-order-refused ∷ (orders-in-a-store
+    ++ cases-6-to-8 logger-open logger-build 0 ∷ cases-6-to-8 logger-open logger-build 1 ∷ logger-cases)

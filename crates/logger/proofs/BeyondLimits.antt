@@ -1,9 +1,9 @@
 -- "a store with larger n, q or used is 22 there": a sound store keeps each limit, so that words which exceed one are none, and every call says so before it looks at
 -- anything else.
-use Prim.Native.Nat.{ℕ, _<_}
+use Prim.Native.Nat.{ℕ}
 use mathlib.Core.Path.{_≡_, refl}
-use mathlib.Core.Logic.{_⊎_, inl, inr}
-use mathlib.Core.Bool.{true, false}
+use mathlib.Core.Logic.{inl, inr}
+use mathlib.Core.Bool.{false}
 use mathlib.Core.List.{List}
 use native.Mathlib.Omega.{arith}
 use Rattle.logger.specs.SmallerLimits.{Beyond}

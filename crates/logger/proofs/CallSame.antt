@@ -1,8 +1,8 @@
 -- One call on two sound stores with the same entries. Its rule is the same in both, since handles mean the same there, and so is its finished diagram: accepted by
 -- both it has one handle, and refused by both it leaves the words.
-use Prim.Native.Nat.{ℕ, _+_, _<_}
+use Prim.Native.Nat.{ℕ, _+_}
 use mathlib.Core.Path.{_≡_, refl, sym, ap, ap₂, _∙_, subst}
-use mathlib.Core.Bool.{Bool, true, false, false≢true, true≢false, cond, not, _&&_}
+use mathlib.Core.Bool.{Bool, true, false, true≢false, cond, not, _&&_}
 use mathlib.Core.List.{List, []}
 use mathlib.Core.Option.{Option, none, some}
 use native.Mathlib.Omega.{arith}
@@ -10,7 +10,7 @@ use borrow.Author.Tests.{ltb-true}
 use Rattle.diagram.specs.Finish.{finished}
 use Rattle.diagram.specs.Insert.{insert}
 use Rattle.diagram.specs.Questions.{finished-in}
-use Rattle.logger.specs.Turns.{was-accepted}
+use Rattle.logger.specs.AnswersTo.{was-accepted}
 use Rattle.operations.specs.declared.answer.BuildFault.{BuildFault}
 use Rattle.operations.specs.declared.answer.BuildFault.the-variants.{NotSound, NoHandle, BadTable, NoRoom}
 use Rattle.operations.specs.declared.answer.Built.{Built}

@@ -1,19 +1,17 @@
 -- A call's own test reads the number of fields, the list, the limit of steps and the number of used entries: in two stores with the same entries, and at one limit
 -- of steps, it says the same.
 use Prim.Native.Nat.{ℕ, zero, suc, _+_, _%_}
-use mathlib.Core.Path.{_≡_, refl, sym, ap, ap₂, _∙_}
-use mathlib.Core.Bool.{Bool, cond, _&&_, _||_}
+use mathlib.Core.Path.{_≡_, refl, ap, ap₂, _∙_}
+use mathlib.Core.Bool.{cond, _&&_, _||_}
 use mathlib.Core.List.{List}
-use mathlib.Core.Option.{Option, none, some}
+use mathlib.Core.Option.{none, some}
 use lib.Dec.{eqb, ltb}
 use lib.ListN.{length}
 use Rattle.operations.specs.Handles.{Call, build, negate, join, choose}
-use Rattle.store.specs.Layout.{field-count, question-count, question, leaves, is-handle}
-use Rattle.tables.specs.declared.answer.TableFault.{TableFault}
+use Rattle.store.specs.Layout.{field-count, question-count, leaves, is-handle}
 use Rattle.tables.specs.declared.answer.TableFault.the-variants.{NoWords, NotRows, TooManyRows, BadRow, OutOfLimits, NotListed}
 use Rattle.tables.specs.declared.decoding.Shape.{Shape}
 use Rattle.tables.specs.declared.decoding.Shape.the-variants as shape
-use Rattle.tables.specs.declared.row.Row.{Row}
 use Rattle.tables.specs.Decoding.{decode}
 use Rattle.tables.specs.Faults.{well-formed, equation-fault, shape-fault, row-fault, rows-fault, table-fault}
 use Rattle.tables.specs.Listed.{same-equation, on-list, guard-listed}

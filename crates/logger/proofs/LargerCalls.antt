@@ -1,7 +1,7 @@
 -- A call that is accepted within smaller limits gives, within larger ones, the same handle and the same words: its table is taken there too, and each entry that
 -- found room finds it there.
-use Prim.Native.Nat.{ℕ, zero, suc, _+_, _%_, _<_, _≤_}
-use mathlib.Core.Path.{_≡_, refl, sym, ap, _∙_}
+use Prim.Native.Nat.{ℕ, zero, suc, _+_, _%_}
+use mathlib.Core.Path.{_≡_, refl, ap, _∙_}
 use mathlib.Core.Bool.{Bool, true, false, cond, _&&_}
 use mathlib.Core.List.{List, []}
 use mathlib.Core.Option.{Option, none, some}
@@ -21,7 +21,6 @@ use Rattle.store.specs.declared.entries.Entry.{Entry}
 use Rattle.store.specs.Entries.{find-entry, with-entry}
 use Rattle.store.specs.Layout.{field-count, used, entry-of, leaves, room}
 use Rattle.store.specs.Outcome.{Outcome, outcome}
-use Rattle.store.specs.Sound.{sound}
 use Rattle.store.specs.Tree.{Tree, leaf, node}
 use Rattle.tables.specs.declared.answer.TableFault.{TableFault}
 use Rattle.tables.specs.declared.answer.TableFault.the-variants.{NoWords, NotRows, TooManyRows, BadRow, OutOfLimits, NotListed}

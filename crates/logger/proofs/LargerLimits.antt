@@ -1,36 +1,29 @@
 -- What keeps smaller limits keeps larger ones: each test of a store, of an opening and of a table compares with a limit, and no limit is smaller.
 use Prim.Native.Nat.{ℕ, zero, suc, _+_, _/_}
 use mathlib.Core.Path.{_≡_, refl, sym, ap, _∙_}
-use mathlib.Core.Bool.{Bool, true, false, false≢true, cond, _&&_}
+use mathlib.Core.Bool.{true, _&&_}
 use mathlib.Core.List.{List}
-use mathlib.Core.Option.{Option, none, some}
 use native.Mathlib.Omega.{arith}
 use borrow.Author.Tests.{le-leb}
-use lib.Dec.{eqb, ltb}
 use lib.ListN.{length}
 use Rattle.logger.specs.SmallerLimits.{Smaller}
 use Rattle.store.specs.declared.answer.Opened.{Opened}
 use Rattle.store.specs.declared.answer.Opened.the-variants.{Accepted, Refused}
-use Rattle.store.specs.declared.answer.OpenFault.the-variants.{OutOfLimits, NotSimplified, NotAbove}
-use Rattle.store.specs.Layout.{field-count, question-count, used, list-words, question-in, room}
-use Rattle.store.specs.Open.{above-last, question-fault, list-fault, opening-in, opening, opened, open-store}
-use Rattle.store.specs.Outcome.{Outcome}
+use Rattle.store.specs.Layout.{field-count, question-count, list-words, question-in}
+use Rattle.store.specs.Open.{question-fault, list-fault, opening, opened, open-store}
 use Rattle.store.specs.Sound.{sound}
 use Rattle.store.specs.SoundParts.{Sound}
 use Rattle.terms.specs.declared.limits.Limits.{Limits}
-use Rattle.terms.specs.declared.limits.TermLimits.{TermLimits}
 use Rattle.terms.specs.declared.term.Equation.{Equation}
 use Rattle.terms.specs.declared.term.Term.{Term}
-use Rattle.terms.specs.Form.{is-simplified}
 use Rattle.terms.specs.Limits.{terms-within}
 use Rattle.terms.specs.Order.{Order, order-of, order-named}
 use Rattle.terms.specs.Words.{allows}
 use Rattle.store.proofs.OpenAccepts.{accepts, both}
 use Rattle.store.proofs.OpenWays.{known-order, accepted}
 use Rattle.store.proofs.SoundFacts.{sound-says, sound-from}
-use Rattle.store.proofs.SoundList.{each-accepted, accepted-allows}
+use Rattle.store.proofs.SoundList.{accepted-allows}
 use Rattle.store.proofs.Tests.{first-passes, second-passes}
-use Rattle.terms.proofs.Cases.{by-test}
 use Rattle.terms.proofs.OrderNumbers.{number-names}
 use Rattle.terms.proofs.TermKept.{allows-says}
 

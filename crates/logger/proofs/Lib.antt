@@ -3,7 +3,7 @@ pub mod InsertSame
 pub mod CallOnSound
 pub mod CallSame
 pub mod FaultSame
-pub mod TurnsOfRun
+pub mod AnswersInTurn
 pub mod SameCalls
 pub mod LargerLimits
 pub mod LargerCalls

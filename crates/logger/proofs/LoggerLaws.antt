@@ -1,6 +1,6 @@
 -- What holds at any limits, at the logger's: each statement on one line, by the theorem that it is an instance of.
-use Prim.Native.Nat.{ℕ, _+_, _≤_, _<_}
-use mathlib.Core.Path.{_≡_, refl, ap, _∙_}
+use Prim.Native.Nat.{ℕ, _+_, _<_}
+use mathlib.Core.Path.{_≡_, refl}
 use mathlib.Core.Logic.{_↔_}
 use mathlib.Core.Bool.{true}
 use mathlib.Core.List.{List, map}
@@ -11,7 +11,7 @@ use Rattle.diagram.specs.Insert.{new-count}
 use Rattle.diagram.specs.Questions.{finished-in}
 use Rattle.logger.specs.SameBooks.{AcceptedAlike, SameRuns}
 use Rattle.logger.specs.SmallerLimits.{Smaller, Beyond}
-use Rattle.logger.specs.Turns.{answers-to}
+use Rattle.logger.specs.AnswersTo.{answers-to}
 use Rattle.operations.specs.declared.answer.BuildFault.the-variants.{NotSound, NoRoom}
 use Rattle.operations.specs.declared.answer.Built.the-variants.{Handle, Refused}
 use Rattle.operations.specs.BooleanLaws.{Formula, BooleanLaw, Worked}
@@ -24,7 +24,6 @@ use Rattle.store.specs.Layout.{used, room}
 use Rattle.store.specs.Meaning.{meaning}
 use Rattle.store.specs.Open.{opening, opened-words, open-store}
 use Rattle.store.specs.Sound.{sound}
-use Rattle.store.specs.SoundParts.{Sound}
 use Rattle.tables.specs.Faults.{table-fault}
 use Rattle.tables.specs.Rows.{rule-meaning}
 use Rattle.terms.specs.Limits.{store-limits, logger-limits}
@@ -37,7 +36,7 @@ use Rattle.store.proofs.OpenSound.{opened-sound}
 use Rattle.store.proofs.SoundFacts.{sound-says}
 use Rattle.logger.proofs.MixedLaw.{law-ashore}
 use Rattle.logger.proofs.BeyondLimits.{beyond-refused}
-use Rattle.logger.proofs.CallOnSound.{of-table, unless-fault, call-on-sound}
+use Rattle.logger.proofs.CallOnSound.{call-on-sound}
 use Rattle.logger.proofs.LargerCalls.{smaller-calls}
 use Rattle.logger.proofs.LargerLimits.{smaller-sound, smaller-opens}
 use Rattle.logger.proofs.SameCalls.{same-calls, same-numbers}

@@ -3,8 +3,8 @@
 use Prim.Native.Nat.{ℕ}
 use mathlib.Core.Path.{_≡_, refl}
 use mathlib.Core.List.{List, [], _∷_, map}
-use Rattle.logger.specs.SameBooks.{AcceptedAlike}
-use Rattle.logger.specs.Turns.{answers-to, was-accepted}
+use Rattle.logger.specs.SameBooks.{entry-words, AcceptedAlike}
+use Rattle.logger.specs.AnswersTo.{answers-to, was-accepted}
 use Rattle.operations.specs.Built.{built-number, built-result}
 use Rattle.operations.specs.Handles.{Call, build, Books, opened-books, run}
 use Rattle.operations.specs.ThreeEqual.{three-equal, last-equal, outer-equal, not-outer, after-case-6}
@@ -46,6 +46,11 @@ pub logger-run-alike : (order : ListOrder)
 unfolding operations-compute answers-to was-accepted
 logger-run-alike FieldsFirst = (refl, refl)
 logger-run-alike LeftFirst = (refl, refl)
+
+-- the words of the used entries, and of none in a store that was just opened
+pub entries-of-cases : (entry-words (after-case-6 0) ≡ 2 ∷ 1 ∷ 0 ∷ 3 ∷ 1 ∷ 0 ∷ 2 ∷ 0 ∷ 3 ∷ 1 ∷ 2 ∷ 4 ∷ []) × (entry-words (three-fields 0 22 .words) ≡ [])
+unfolding operations-compute entry-words
+entries-of-cases = (refl, refl)
 
 -- ---- why "by both or by neither"
 -- the institute's limits, but for the entries

@@ -1,10 +1,10 @@
 -- The handle law over calls of which each is made within limits of its own: an accepted call does what it would do within the largest limits, and a refused one
 -- leaves the books.
 use Prim.Native.Nat.{ℕ}
-use mathlib.Core.Path.{_≡_, refl, sym, ap, _∙_, subst}
-use mathlib.Core.List.{List, [], _∷_}
+use mathlib.Core.Path.{_≡_, refl, sym, ap, subst}
+use mathlib.Core.List.{List, [], _∷_, map}
 use lib.ListN.{length}
-use Rattle.logger.specs.MixedCalls.{CallWithin, run-within, EachSmaller}
+use Rattle.logger.specs.MixedCalls.{CallWithin, within, run-within, EachSmaller}
 use Rattle.logger.specs.SmallerLimits.{Smaller}
 use Rattle.operations.specs.declared.answer.Built.{Built}
 use Rattle.operations.specs.declared.answer.Built.the-variants.{Handle, Refused}
@@ -18,6 +18,12 @@ use Rattle.operations.proofs.HandleLaw.{kept-after, kept-run, kept-law, opened-
 use Rattle.operations.proofs.RefusedUnchanged.{refused-unchanged}
 use Rattle.logger.proofs.LargerCalls.{smaller-calls}
 use Rattle.logger.proofs.LargerLimits.{opening-larger}
+
+-- with one and the same limits it is the handle law's run
+pub one-within : (limits : Limits) (b : Books) (calls : List Call) → run-within b (map (within limits) calls) ≡ run limits b calls
+unfolding run-within run
+one-within limits b [] = refl
+one-within limits b (c ∷ cs) = one-within limits (after limits b c) cs
 
 -- the books after a call with this outcome
 abbrev after-outcome : Books → Call → Outcome Built → Books

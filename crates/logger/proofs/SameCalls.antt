@@ -1,21 +1,19 @@
 -- The same calls after the same opening, at two limits and on stores of two lengths: what the opening leaves is the same but for the zeros behind it, and each call
 -- that both accept, or both refuse, keeps it so.
-use Prim.Native.Nat.{ℕ, _+_, _-_, _*_, _/_, _≤_, _<_}
+use Prim.Native.Nat.{ℕ, _+_, _-_, _*_, _/_, _<_}
 use mathlib.Core.Path.{_≡_, refl, sym, ap, ap₂, _∙_}
-use mathlib.Core.Logic.{_≢_}
-use mathlib.Core.List.{List, [], _∷_, _++_, map}
+use mathlib.Core.List.{List, [], _∷_, map}
 use native.Mathlib.Omega.{arith}
 use native.Mathlib.Decide.{decLt, ℕ-discrete}
-use lib.ListN.{length, getD, take, drop, replicate, length-take, length-drop, List·getD-append}
+use lib.ListN.{length, getD, drop, replicate, length-take, length-drop, List·getD-append}
 use lib.Seq.{getD-take, getD-drop, ext-getD}
 use Rattle.logger.specs.SameBooks.{entry-words, SameBooks, AcceptedAlike, SameRuns}
-use Rattle.logger.specs.Turns.{answers-to, was-accepted}
+use Rattle.logger.specs.AnswersTo.{answers-to}
 use Rattle.operations.specs.declared.answer.Built.{Built}
 use Rattle.operations.specs.Built.{built-number, built-result}
-use Rattle.operations.specs.Handles.{Call, build, answer-to, Books, opened-books, after, run}
+use Rattle.operations.specs.Handles.{Call, answer-to, Books, opened-books, after, run}
 use Rattle.store.specs.declared.answer.Opened.the-variants.{Accepted}
-use Rattle.store.specs.Grown.{Agree}
-use Rattle.store.specs.Layout.{heading-length, question-count, used-place, used, entries-start}
+use Rattle.store.specs.Layout.{heading-length, used-place, used, entries-start}
 use Rattle.store.specs.Open.{opening, opened-words}
 use Rattle.store.specs.SoundParts.{Sound}
 use Rattle.terms.specs.declared.limits.Limits.{Limits}

@@ -1,18 +1,17 @@
 -- Two stores with the same heading, list and used entries, whatever their lengths. They find an entry at the same place, since only used entries are
 -- compared; and where both have room for one more they are the same again.
-use Prim.Native.Nat.{ℕ, zero, suc, _+_, _-_, _*_, _≤_, _<_}
-use mathlib.Core.Path.{_≡_, refl, sym, ap, ap₂, _∙_}
-use mathlib.Core.Logic.{_≢_}
-use mathlib.Core.Bool.{Bool, true, false, cond}
+use Prim.Native.Nat.{ℕ, zero, suc, _+_, _-_, _*_, _<_}
+use mathlib.Core.Path.{_≡_, refl, sym, ap, _∙_}
+use mathlib.Core.Bool.{Bool, true, false}
 use mathlib.Core.List.{List}
 use native.Mathlib.Omega.{arith}
-use native.Mathlib.Decide.{decLt, ℕ-discrete}
-use lib.ListN.{length, getD}
+use native.Mathlib.Decide.{decLt}
+use lib.ListN.{getD}
 use Rattle.diagram.specs.Questions.{questions-from, questions}
 use Rattle.store.specs.declared.entries.Entry.{Entry}
 use Rattle.store.specs.Entries.{first, is-entry, find-entry, with-entry}
 use Rattle.store.specs.Grown.{Agree}
-use Rattle.store.specs.Layout.{question-count, used-place, used, entries-start, entry}
+use Rattle.store.specs.Layout.{question-count, used, entries-start}
 use Rattle.store.specs.Needs.{HasEntry}
 use Rattle.store.specs.Sound.{same-entry}
 use Rattle.operations.proofs.NumberedQuestions.{questions-same}

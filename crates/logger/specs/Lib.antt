@@ -1,4 +1,4 @@
-pub mod Turns
+pub mod AnswersTo
 pub mod SameBooks
 pub mod SmallerLimits
 pub mod MixedCalls

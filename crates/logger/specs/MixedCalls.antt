@@ -8,6 +8,9 @@ pub record CallWithin : Type 0 where
   pub limits : Limits
   pub call : Call
 
+abbrev pub within : Limits → Call → CallWithin
+within limits c = record { limits = limits; call = c }
+
 -- the calls in turn, as in the handle law's run
 unfoldable pub run-within : Books → List CallWithin → Books
 run-within b [] = b

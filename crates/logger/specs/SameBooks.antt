@@ -4,7 +4,7 @@ use Prim.Native.Nat.{ℕ, _*_}
 use mathlib.Core.Path.{_≡_}
 use mathlib.Core.List.{List, map}
 use lib.ListN.{take, drop}
-use Rattle.logger.specs.Turns.{answers-to, was-accepted}
+use Rattle.logger.specs.AnswersTo.{answers-to, was-accepted}
 use Rattle.operations.specs.Built.{built-result}
 use Rattle.operations.specs.Handles.{Call, Books, run}
 use Rattle.store.specs.Layout.{field-count, question-count, used, store-order, list-words, entries-start}

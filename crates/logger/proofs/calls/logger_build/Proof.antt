@@ -4,9 +4,6 @@ use Rattle.terms.proofs.LimitsFit.{logger-fits}
 use Rattle.logger.proofs.calls.logger_build.Statement.{statement}
 use Rattle.logger.proofs.calls.logger_build.Tie as tie
 
-limits-of-logger-requires : tie.Need-limits-of-logger-requires
-limits-of-logger-requires c κs = search needs
-
 build-within-requires : tie.Need-build-within-requires
 build-within-requires c κs = search (needs, logger-fits)
 
@@ -17,4 +14,4 @@ returns : tie.Need-returns
 returns c = cc
 
 pub logger-build-spec : {M : Type 1} → statement M
-logger-build-spec = tie.close (tie.spec limits-of-logger-requires build-within-requires same-length returns)
+logger-build-spec = tie.close (tie.spec (λ c κs. search needs) build-within-requires same-length returns)

@@ -3,9 +3,6 @@ use borrow.Author.Needs.{needs}
 use Rattle.logger.proofs.calls.logger_open.Statement.{statement}
 use Rattle.logger.proofs.calls.logger_open.Tie as tie
 
-limits-of-logger-requires : tie.Need-limits-of-logger-requires
-limits-of-logger-requires c κs = search needs
-
 open-within-requires : tie.Need-open-within-requires
 open-within-requires c κs = search needs
 
@@ -16,4 +13,4 @@ returns : tie.Need-returns
 returns c = cc
 
 pub logger-open-spec : {M : Type 1} → statement M
-logger-open-spec = tie.close (tie.spec limits-of-logger-requires open-within-requires same-length returns)
+logger-open-spec = tie.close (tie.spec (λ c κs. search needs) open-within-requires same-length returns)

@@ -2,7 +2,7 @@
 -- the first has left.
 use mathlib.Core.Path.{_≡_, refl, ap}
 use mathlib.Core.List.{List, [], _∷_, _++_}
-use Rattle.logger.specs.Turns.{answers-to}
+use Rattle.logger.specs.AnswersTo.{answers-to}
 use Rattle.operations.specs.Handles.{Call, answer-to, Books, after, run}
 use Rattle.terms.specs.declared.limits.Limits.{Limits}
 
