@@ -44,6 +44,17 @@ static void words(const uint32_t *got, const uint32_t *expected, size_t length)
     printf("\n");
 }
 
+/* Many words that were lent to a call, which are to be as they were. */
+static void unchanged(const uint32_t *got, const uint32_t *before, size_t length)
+{
+    compared++;
+    if (memcmp(got, before, length * sizeof(uint32_t)) != 0) {
+        printf("    the words are not as they were");
+        differs();
+        printf("\n");
+    }
+}
+
 /* Counts that were lent to a call, as they are afterwards. */
 static void counts(const uint16_t *got, const uint16_t *expected, size_t length)
 {
@@ -269,6 +280,7 @@ static void not_sound(const char *which, uint32_t *store, size_t length)
 {
     printf("%s:\n", which);
     answer("  build", sheet_build(store, length, NULL, 0), 22, 0);
+    answer("  logger's build", sheet_logger_build(store, length, NULL, 0), 22, 0);
     answer("  negate", sheet_negate(store, length, 0), 22, 0);
     answer("  join", sheet_join(store, length, 0, 1), 22, 0);
     answer("  choose", sheet_choose(store, length, 0, 1, 2), 22, 0);
@@ -403,6 +415,7 @@ static void orders_in_a_store(void)
 static void null_stores(void)
 {
     answer("null open", sheet_open(0, 0, NULL, 0, NULL, 0), 21, 0);
+    answer("null logger's open", sheet_logger_open(0, 0, NULL, 0, NULL, 0), 21, 0);
     not_sound("null store", NULL, 0);
 }
 
@@ -494,12 +507,112 @@ static void largest_table(void)
     memcpy(before, table, sizeof(table));
     check("vii check 4,096 entries", table, 4096 * 4, 4097, 0, 2);
     check("vii check 4,097 entries", table, 4097 * 4, 4098, 81, 0);
-    compared++;
-    if (memcmp(table, before, sizeof(table)) != 0) {
-        printf("the table is not as it was");
-        differs();
-        printf("\n");
+    unchanged(table, before, LENGTH(table));
+}
+
+/* Document 02 (xi). Six fields at most, which is looked at before the order. */
+static void logger_fields(void)
+{
+    uint32_t store[4];
+    fill(store, LENGTH(store));
+    answer("xi logger's open, 7 fields", sheet_logger_open(7, 0, NULL, 0, store, LENGTH(store)), 11, 0);
+    answer("xi logger's open, 7 fields, order 2", sheet_logger_open(7, 2, NULL, 0, store, LENGTH(store)), 11, 0);
+    answer("xi logger's open, 6 fields, order 2", sheet_logger_open(6, 2, NULL, 0, store, LENGTH(store)), 18, 0);
+    words(store, WORDS(7, 7, 7, 7));
+    answer("xi logger's open, 6 fields", sheet_logger_open(6, 0, NULL, 0, store, LENGTH(store)), 0, 0);
+    words(store, WORDS(6, 0, 0, 0));
+}
+
+/* 1 = 0, 1 = S(0) and so on to 1 = S8(0), and a word more. */
+static const uint32_t nine_questions[19] = {1, 0, 1, 32, 1, 64, 1, 96, 1, 128, 1, 160, 1, 192, 1, 224, 1, 256, 1};
+
+static void logger_questions(void)
+{
+    uint32_t store[22];
+    fill(store, LENGTH(store));
+    answer("xi logger's open, nine questions", sheet_logger_open(1, 0, nine_questions, 18, store, LENGTH(store)), 13, 0);
+    answer("xi logger's open, 19 words", sheet_logger_open(1, 0, nine_questions, 19, store, LENGTH(store)), 12, 0);
+    answer("xi logger's open, eight questions in 19 words", sheet_logger_open(1, 0, nine_questions, 16, store, 19), 21, 0);
+    words(store, WORDS(7, 7, 7, 7, 7, 7, 7, 7, 7, 7, 7, 7, 7, 7, 7, 7, 7, 7, 7, 7, 7, 7));
+    answer("xi logger's open, eight questions in 20 words", sheet_logger_open(1, 0, nine_questions, 16, store, 20), 0, 0);
+    words(store, WORDS(1, 8, 0, 0, 1, 0, 1, 32, 1, 64, 1, 96, 1, 128, 1, 160, 1, 192, 1, 224, 7, 7));
+}
+
+/* Cases 6 to 8 by the logger. */
+static void logger_three_fields(void)
+{
+    uint32_t store[22];
+    fill(store, LENGTH(store));
+    answer("xi logger's open", sheet_logger_open(3, 0, WORDS(2, 1, 3, 1, 3, 2), store, LENGTH(store)), 0, 0);
+    answer("xi logger's build 3 = 2", sheet_logger_build(store, LENGTH(store), WORDS(2, 3, 2, 0)), 0, 5);
+    words(store, WORDS(3, 3, 4, 0, 2, 1, 3, 1, 3, 2, 2, 1, 0, 3, 1, 0, 2, 0, 3, 1, 2, 4));
+    answer("xi logger's build 3 = 1", sheet_logger_build(store, LENGTH(store), WORDS(2, 3, 1, 0)), 0, 2);
+    answer("xi logger's build 2 = 1 and 3 = 2 and not 3 = 1",
+           sheet_logger_build(store, LENGTH(store), WORDS(2, 2, 1, 0, 2, 3, 2, 0, 4, 0, 1, 0, 2, 3, 1, 0, 3, 3, 0, 0, 4, 2, 4, 0)), 0, 0);
+    words(store, WORDS(3, 3, 4, 0, 2, 1, 3, 1, 3, 2, 2, 1, 0, 3, 1, 0, 2, 0, 3, 1, 2, 4));
+    answer("xi verdict", sheet_verdict(store, LENGTH(store), 5), 0, 2);
+}
+
+/* The rule always, and no words by NULL, in a store that is sound for the institute and too large for the logger. */
+static void too_large(const char *which, uint32_t *store, size_t length)
+{
+    printf("%s:\n", which);
+    answer("  logger's build", sheet_logger_build(store, length, WORDS(1, 0, 0, 0)), 22, 0);
+    answer("  logger's build, no words", sheet_logger_build(store, length, NULL, 0), 22, 0);
+    answer("  build", sheet_build(store, length, WORDS(1, 0, 0, 0)), 0, 1);
+    answer("  build, no words", sheet_build(store, length, NULL, 0), 31, 0);
+}
+
+/* A sound store for 1 = 0 to 1 = S7(0) with so many entries, then zeros. The eighth question stands over the leaves, the seventh over these four
+   handles, and the sixth over these sixteen; no operation made such diagrams. */
+static void filled(uint32_t *store, size_t length, uint32_t entries)
+{
+    static const uint32_t levels[][2] = {{8, 2}, {7, 4}, {6, 16}};
+    memset(store, 0, length * sizeof(uint32_t));
+    memcpy(store, (const uint32_t[]){1, 8, entries, 0}, 4 * sizeof(uint32_t));
+    memcpy(&store[4], nine_questions, 16 * sizeof(uint32_t));
+    uint32_t *entry = &store[20], *end = &store[20 + 3 * entries];
+    for (size_t level = 0; level < LENGTH(levels); level++) {
+        uint32_t question = levels[level][0], handles = levels[level][1];
+        for (uint32_t pair = 0; pair < handles * handles && entry < end; pair++) {
+            if (pair / handles != pair % handles) {
+                memcpy(entry, (const uint32_t[]){question, pair / handles, pair % handles}, 3 * sizeof(uint32_t));
+                entry += 3;
+            }
+        }
     }
+}
+
+static void logger_larger_stores(void)
+{
+    uint32_t seven[] = {7, 0, 0, 0}, nine[22] = {1, 9, 0, 0}, store[626], before[626];
+    too_large("xi seven fields", seven, LENGTH(seven));
+    words(seven, WORDS(7, 0, 0, 0));
+    memcpy(&nine[4], nine_questions, 18 * sizeof(uint32_t));
+    too_large("xi nine questions", nine, LENGTH(nine));
+    words(nine, WORDS(1, 9, 0, 0, 1, 0, 1, 32, 1, 64, 1, 96, 1, 128, 1, 160, 1, 192, 1, 224, 1, 256));
+    filled(store, LENGTH(store), 201);
+    filled(before, LENGTH(before), 201);
+    too_large("xi 201 entries", store, LENGTH(store));
+    unchanged(store, before, LENGTH(store));
+}
+
+/* The words have room for 202 entries. 1 = 0 takes one, and always takes none. */
+static void logger_entries(void)
+{
+    uint32_t store[626], before[626];
+    filled(store, LENGTH(store), 199);
+    answer("xi logger's build, 199 entries", sheet_logger_build(store, LENGTH(store), WORDS(2, 1, 0, 0)), 0, 201);
+    words(&store[617], WORDS(1, 1, 0, 0, 0, 0, 0, 0, 0));
+    filled(store, LENGTH(store), 200);
+    filled(before, LENGTH(before), 200);
+    answer("xi logger's build, 200 entries", sheet_logger_build(store, LENGTH(store), WORDS(2, 1, 0, 0)), 51, 0);
+    answer("xi logger's build, no new entry", sheet_logger_build(store, LENGTH(store), WORDS(1, 0, 0, 0)), 0, 1);
+    answer("xi build, no new entry", sheet_build(store, LENGTH(store), WORDS(1, 0, 0, 0)), 0, 1);
+    unchanged(store, before, LENGTH(store));
+    answer("xi build, 200 entries", sheet_build(store, LENGTH(store), WORDS(2, 1, 0, 0)), 0, 202);
+    words(store, WORDS(1, 8, 201, 0));
+    words(&store[620], WORDS(1, 1, 0, 0, 0, 0));
 }
 
 /* No words by NULL beside a store that is sound. */
@@ -508,6 +621,7 @@ static void null_slices(void)
     uint32_t store[6];
     answer("null list", sheet_open(1, 0, NULL, 0, store, LENGTH(store)), 0, 0);
     answer("null rule", sheet_build(store, LENGTH(store), NULL, 0), 31, 0);
+    answer("null rule of the logger", sheet_logger_build(store, LENGTH(store), NULL, 0), 31, 0);
     answer("null example of one field", sheet_example(store, LENGTH(store), 1, NULL, 0), 23, 0);
     answer("null sheet of one field", sheet_read(store, LENGTH(store), 1, NULL, 0), 23, 0);
     answer("null rule written back", sheet_write_back(store, LENGTH(store), 0, NULL, 0), 23, 0);
@@ -534,6 +648,11 @@ int main(void)
     orders_built();
     case_6_in_order_1();
     orders_in_a_store();
+    logger_fields();
+    logger_questions();
+    logger_three_fields();
+    logger_larger_stores();
+    logger_entries();
     null_stores();
     null_slices();
     tables_of_any_shape();

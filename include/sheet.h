@@ -1,4 +1,4 @@
-/* Sighting-sheet rules as decision diagrams: the eleven operations, from C.
+/* Sighting-sheet rules as decision diagrams: the thirteen operations, from C.
 
    Link libsheet.a, which `rt staticlib sheet` writes (x86-64 Linux). The library calls nothing but memcpy and memset, keeps nothing from one
    call to the next, and has no memory of its own: it reads and writes what is lent, and its stack. A call takes less than 65,536 bytes of
@@ -13,6 +13,18 @@
    The questions ascend strictly in the store's order. Order 0 compares left field, right field, left steps, right steps; order 1, that of the
    older books, compares left field, left steps, right field, right steps; the first that differs decides. A list may ascend in both orders, so
    the order cannot be told from the list: word 3 alone says it.
+
+   A store has room for as many entries as its words give, up to a limit. The deck logger has a smaller book, with its own open and build:
+
+                                             fields   questions   entries
+     sheet_logger_open, sheet_logger_build   6        8           200
+     all other operations                    16       20          4,096
+
+   A logger's store can be given to every other operation: what the logger's open or build accepts, sheet_open or sheet_build would have done
+   just so on the same words. The other way round it is not so: a store with more than 6 fields, 8 questions or 200 used entries is 22 for
+   the logger's build, sound as it may be. More words than 200 entries take are no hindrance. After the same accepted opening, the same builds in
+   the same order by both, nothing else writing, give the same handles and the same used entries, as long as each build is accepted by both or
+   by neither. This is proved.
 
    A rule is rows of four words: kind, a, b, c. Rows count from 0; the last row is the rule. Kinds:
      0 never; 1 always; 2 the equation of the term words a and b; 3 not row a; 4 rows a and b; 5 if row a then row b else row c.
@@ -29,15 +41,15 @@
    in the order in which they stand there, is the answer's number. Then the result is 0 and NOTHING IS CHANGED: when the call returns, every
    word that was lent is as it was.
 
-     11  n is above 16                                  31  the rule has no words
+     11  n is above 16, for the logger above 6          31  the rule has no words
      12  the list's words are odd in number             32  the rule's words are no multiple of four
-     13  the list has more than 20 questions            33  the rule has more than 256 rows
+     13  more than 20 questions, for the logger 8       33  the rule has more than 256 rows
      14  a field is above n, or steps above 1,023       34  unknown kind, nonzero unused column, reference not lower
      15  not a simplified question                      35  a field is above n, or steps above 1,023
      16  not strictly above the one before, by order    36  an equation neither always nor never nor on the list
      18  the order is neither 0 nor 1                   41  a handle is at or above used + 2
      21  the store is shorter than 4 + 2q words         51  used plus the new entries exceeds the store's room
-     22  the store is not sound                         52  nothing satisfies the handle
+     22  the store is not sound (more on it below)      52  nothing satisfies the handle
      23  the slice has the wrong length                 53  writing back would take more than 256 rows
      81  a table's words are no multiple of four, it has more than 4,096 entries, or the root is at or above entries + 2
      82  a field of a table is above 16, steps above 4,095, or an equation not simplified
@@ -47,7 +59,8 @@
      86  one of the rules of document 000's Definition 28 applies
 
    22 is given, among others, for fewer than 4 words, for a word 3 that is neither 0 nor 1, and for a list that does not ascend in the order
-   that word 3 names.
+   that word 3 names; by the logger's build also for a store with more than 6 fields, 8 questions or 200 used entries. The room that 51 speaks of
+   is what the words give, 4,096 entries at most, and 200 at most for the logger.
 
    What C must keep. The functions are proved for whatever words are lent: no content of a store, list, rule, sheet or table, no handle and no
    length makes them read or write outside what was lent. Nothing proves what stands on C's side of a call, so the caller sees to it that
@@ -92,6 +105,15 @@ sheet_answer sheet_open(uint32_t n, uint32_t order, const uint32_t *list, size_t
 /* Adds the finished diagram of a rule. The result is its handle.
    Refusals: 22, 31, 32, 33, then row by row 34, 35, 36, then 51. */
 sheet_answer sheet_build(uint32_t *store, size_t store_len, const uint32_t *rule, size_t rule_len);
+
+/* The deck logger's open: as sheet_open, for 6 fields and 8 questions at most. The result is 0.
+   Refusals: 11 (n is above 6), 18, 12, 13 (more than 8 questions), then question by question 14, 15, 16, then 21. */
+sheet_answer sheet_logger_open(uint32_t n, uint32_t order, const uint32_t *list, size_t list_len, uint32_t *store, size_t store_len);
+
+/* The deck logger's build: as sheet_build, in a store within the logger's limits. The result is the rule's handle.
+   Refusals: 22 (not sound, or more than 6 fields, 8 questions or 200 used entries), 31, 32, 33, then row by row 34, 35, 36, then 51 (more
+   entries than 200, or than the words give room for). */
+sheet_answer sheet_logger_build(uint32_t *store, size_t store_len, const uint32_t *rule, size_t rule_len);
 
 /* Adds the finished diagram of "not a". The result is its handle.
    Refusals: 22, 41, 51. */

@@ -36,9 +36,11 @@ opened-same n order list words words′ even =
     let front : List ℕ = n ∷ length list / 2 ∷ 0 ∷ order ∷ list in
     let behind : ℕ → List ℕ = λ w. replicate (w - (heading-length + length list)) 0 in
     record {
-      agree = record { word = λ k h _.
-        let in-front : k < length front = omega arith in
-        List·getD-append front (behind words′) 0 k in-front ∙ sym (List·getD-append front (behind words) 0 k in-front) };
+      agree = record {
+        word = λ k h _.
+            let in-front : k < length front = omega arith in
+            List·getD-append front (behind words′) 0 k in-front ∙ sym (List·getD-append front (behind words) 0 k in-front);
+      };
       same-used = refl;
     }
 

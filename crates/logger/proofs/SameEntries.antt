@@ -67,11 +67,13 @@ same-added {s} {s′} same e fits fits′ =
     let start : entries-start s′ ≡ entries-start s = omega (arith, questions-agree (same .agree)) in
     let at : ℕ = entries-start s + 3 * used s in
     record {
-      agree = record { word = λ k h n. elim (decLt k at) [
-        | yes l ↦ agree-added s′ e .word k (omega (arith, same .same-used)) n ∙ same .agree .word k l n ∙ sym (agree-added s e .word k l n)
-        | no l ↦
-            entry-word s′ e fits′ (k - at) k (omega (arith, start-kept s e fits, used-added s e fits)) (omega (arith, same .same-used))
-            ∙ sym (entry-word s e fits (k - at) k (omega (arith, start-kept s e fits, used-added s e fits)) (omega arith))
-      ] };
+      agree = record {
+        word = λ k h n. elim (decLt k at) [
+          | yes l ↦ agree-added s′ e .word k (omega (arith, same .same-used)) n ∙ same .agree .word k l n ∙ sym (agree-added s e .word k l n)
+          | no l ↦
+              entry-word s′ e fits′ (k - at) k (omega (arith, start-kept s e fits, used-added s e fits)) (omega (arith, same .same-used))
+              ∙ sym (entry-word s e fits (k - at) k (omega (arith, start-kept s e fits, used-added s e fits)) (omega arith))
+        ];
+      };
       same-used = omega (arith, used-added s e fits, used-added s′ e fits′, same .same-used);
     }

@@ -27,9 +27,21 @@ pub mod occasion {
     pub const OTHER_ORDER_NAMED: &str = "22 for the other order in word 3";
     pub const CALLS_IN_ORDER_0: &str = "a list of calls on a store whose list is in order 0 only";
     pub const CALLS_IN_ORDER_1: &str = "a list of calls on a store whose list is in order 1 only";
+    pub const ACCEPTED_BY_BOTH: &str = "a rule that logger and institute accept side by side";
+    pub const REFUSED_BY_BOTH: &str = "a rule that logger and institute refuse side by side";
+    pub const NO_ROOM_FOR_BOTH: &str = "51 by logger and institute side by side";
+    pub const NO_ROOM_UP_TO_200: &str = "51 by the logger alone, which would have more than 200 entries";
+    pub const NO_ROOM_AT_200: &str = "51 by the logger alone, with 200 entries used";
+    pub const NO_ROOM_IN_FEWER_WORDS: &str = "51 by the logger alone, whose words are too few";
+    pub const NO_ROOM_FOR_INSTITUTE: &str = "51 by the institute alone, whose words are too few";
+    pub const ACCEPTED_AT_200: &str = "a rule that both accept, with 200 entries used";
+    pub const BUILT_TO_THE_END: &str = "builds side by side to the end";
+    pub const TOO_MANY_FIELDS_ALONE: &str = "22 by the logger for nothing but the fields of a store";
+    pub const TOO_MANY_QUESTIONS_ALONE: &str = "22 by the logger for nothing but the questions of a store";
+    pub const TOO_MANY_ENTRIES_ALONE: &str = "22 by the logger for nothing but the entries of a store";
 
     /// Every occasion.
-    pub const ALL: [&str; 8] = [
+    pub const ALL: [&str; 20] = [
         LIST_IN_ONE_ORDER,
         LIST_IN_BOTH_ORDERS,
         FIELDS_BEFORE_ORDER,
@@ -38,6 +50,18 @@ pub mod occasion {
         OTHER_ORDER_NAMED,
         CALLS_IN_ORDER_0,
         CALLS_IN_ORDER_1,
+        ACCEPTED_BY_BOTH,
+        REFUSED_BY_BOTH,
+        NO_ROOM_FOR_BOTH,
+        NO_ROOM_UP_TO_200,
+        NO_ROOM_AT_200,
+        NO_ROOM_IN_FEWER_WORDS,
+        NO_ROOM_FOR_INSTITUTE,
+        ACCEPTED_AT_200,
+        BUILT_TO_THE_END,
+        TOO_MANY_FIELDS_ALONE,
+        TOO_MANY_QUESTIONS_ALONE,
+        TOO_MANY_ENTRIES_ALONE,
     ];
 }
 

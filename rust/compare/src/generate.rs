@@ -3,7 +3,7 @@
 use std::collections::HashSet;
 use std::ops::Range;
 
-use independent::{Term, FIELDS_FIRST, FIRST_ENTRY, HEADING, ORDERS};
+use independent::{Term, FIELDS_FIRST, FIRST_ENTRY, HEADING, LOGGER, ORDERS};
 use independent::{MOST_FIELDS, MOST_QUESTIONS, MOST_ROWS, MOST_STEPS};
 
 use crate::calls::Call;
@@ -21,6 +21,16 @@ impl Survey {
     /// The call that opens a store for it.
     pub fn open(&self) -> Call {
         Call::Open { n: self.n, order: self.order, list: self.list.clone() }
+    }
+
+    /// The call by which the logger opens a store for it.
+    pub fn logger_open(&self) -> Call {
+        Call::LoggerOpen { n: self.n, order: self.order, list: self.list.clone() }
+    }
+
+    /// The number of questions.
+    pub fn questions(&self) -> usize {
+        self.list.len() / 2
     }
 
     /// The same questions, listed in an order.
@@ -154,7 +164,7 @@ pub fn faulty_survey(random: &mut Random) -> Survey {
         3 => survey.order = 1 - survey.order,
         // An odd number of words.
         4 => survey.list.push(random.word() % 600),
-        // Twenty questions or more, all good.
+        // Many questions, all good.
         5 => (survey.n, survey.list) = (MOST_FIELDS, many_questions(random, survey.order)),
         // Several of these, of which the first that opening looks for counts.
         6 | 7 => {
@@ -176,13 +186,14 @@ pub fn faulty_survey(random: &mut Random) -> Survey {
     survey
 }
 
+/// More fields than the logger takes, mostly more than the institute does.
 fn too_many_fields(random: &mut Random) -> u32 {
-    *random.pick(&[17, 18, 31, 32, u32::MAX])
+    *random.pick(&[LOGGER.fields + 1, LOGGER.fields + 2, 17, 18, 31, 32, u32::MAX])
 }
 
-/// The words of a good list, except that it mostly has more than 20 questions.
+/// The words of a good list, except that it mostly has more questions than the logger takes, or than the institute does.
 fn many_questions(random: &mut Random, order: u32) -> Vec<u32> {
-    let pairs = *random.pick(&[20, 21, 22, 40]);
+    let pairs = *random.pick(&[LOGGER.questions, LOGGER.questions + 1, 20, 21, 22, 40]);
     let questions = (0..4 * pairs).map(|_| question(random, MOST_FIELDS, Gaps::up_to(MOST_STEPS))).collect();
     let mut list = in_order(order, questions);
     list.truncate(2 * pairs);
@@ -562,13 +573,16 @@ pub fn damage(random: &mut Random, store: &mut Vec<u32>, fault: Fault) {
     }
 }
 
-/// Changes a word of the heading. Some of the numbers, times two or three or plus a few, are small again in 32 bits.
+/// Changes a word of the heading. Some of the numbers, times two or three or plus a few, are small again in 32 bits; some are beyond the
+/// logger's limits only.
 fn damage_heading(random: &mut Random, store: &mut [u32], fault: Fault) {
     let (n, q, used, order) = (store[0], store[1], store[2], store[3]);
     match fault {
-        Fault::Fields => store[0] = *random.pick(&[17, 31, u32::MAX, n / 2]),
-        Fault::Questions => store[1] = *random.pick(&[21, q + 1, q / 2, u32::MAX, 1 << 31, (1 << 31) + 1]),
-        Fault::Used => store[2] = *random.pick(&[used + 1, used / 2, 4097, u32::MAX, 1_431_655_766, 2_863_311_531]),
+        Fault::Fields => store[0] = *random.pick(&[LOGGER.fields + 1, 17, 31, u32::MAX, n / 2]),
+        Fault::Questions => store[1] = *random.pick(&[9, 21, q + 1, q / 2, u32::MAX, 1 << 31, (1 << 31) + 1]),
+        Fault::Used => {
+            store[2] = *random.pick(&[used + 1, used / 2, 201, 4097, u32::MAX, 1_431_655_766, 2_863_311_531])
+        }
         Fault::UnknownOrder => store[3] = *random.pick(&UNKNOWN_ORDERS),
         _ => store[3] = 1 - order,
     }

@@ -40,7 +40,9 @@ impl Ledger {
             return;
         }
         let meaning: Meaning = match call {
-            Call::Build { rule } | Call::LoggerBuild { rule } => self.sheets.iter().map(|sheet| rule_holds(rule, sheet)).collect(),
+            Call::Build { rule } | Call::LoggerBuild { rule } => {
+                self.sheets.iter().map(|sheet| rule_holds(rule, sheet)).collect()
+            }
             Call::Negate(a) => self.meaning(*a, lent).iter().map(|a| !a).collect(),
             Call::Join(a, b) => {
                 let (a, b) = (self.meaning(*a, lent), self.meaning(*b, lent));

@@ -50,7 +50,7 @@ impl LoggerStore {
     /// ```
     pub fn from_words(words: Vec<u32>) -> Result<LoggerStore, Refusal> {
         let mut logger = LoggerStore(Store::from_words(words)?);
-        // Building tests the limits first. The rule never takes no entry, so it is accepted by every store and leaves all words as they are.
+        // Building tests the limits first. `Rule::Never` needs no entry, so every store accepts it, and its words stay as they are.
         logger.build(&Rule::Never)?;
         Ok(logger)
     }

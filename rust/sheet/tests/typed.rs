@@ -1,7 +1,9 @@
 //! The typed interface gives what the words give, and every refusal that its types leave possible.
 
-use sheet::{words, DiagramEntry, DiagramTable, Equation, Field, Handle, Order, Question, Refusal, Row, RowNumber};
-use sheet::{Rule, RuleTable, Simplified, Store, Verdict, ZERO};
+use sheet::{
+    words, DiagramEntry, DiagramTable, Equation, Field, Handle, Limits, LoggerStore, Order, Question, Refusal,
+};
+use sheet::{Row, RowNumber, Rule, RuleTable, Simplified, Store, Verdict, ZERO};
 
 fn pairs() -> [Equation; 3] {
     [Field(2).equals(Field(1)), Field(3).equals(Field(1)), Field(3).equals(Field(2))]
@@ -248,6 +250,95 @@ fn a_store_shows_its_words() {
     let table = store.write_back(handle).unwrap();
     assert_eq!(table.to_words(), rule[..4 * answer.result as usize]);
     assert_eq!(table.rows().len(), 10);
+}
+
+#[test]
+fn the_logger_opens_within_its_limits() {
+    let opened = |fields: u32, questions: &[Equation]| {
+        LoggerStore::open(fields, Order::FieldsFirst, questions.iter().copied(), 1).map(|logger| logger.room())
+    };
+    assert_eq!(opened(6, &pairs()), Ok(1));
+    assert_eq!(opened(7, &pairs()), Err(Refusal::TooManyFields));
+    assert_eq!(opened(1, &numbers(8)), Ok(1));
+    assert_eq!(opened(1, &numbers(9)), Err(Refusal::TooManyQuestions));
+    assert_eq!(opened(2, &pairs()), Err(Refusal::ListTerm));
+    assert_eq!(opened(3, &[Field(1).equals(Field(2))]), Err(Refusal::NotSimplified));
+    assert_eq!(opened(3, &[pairs()[1], pairs()[0]]), Err(Refusal::NotAscending));
+}
+
+#[test]
+fn the_logger_builds_what_a_store_builds() {
+    for order in Order::ALL {
+        let mut logger = LoggerStore::open(3, order, pairs(), 4).unwrap();
+        let mut store = Store::open(3, order, pairs(), 4).unwrap();
+        assert_eq!(logger.as_store(), &store);
+        let [first, inner, last] = pairs().map(Rule::from);
+        let impossible = first & last.clone() & !inner.clone();
+        for rule in [last.clone(), inner, impossible, Field(4).equals(ZERO).into(), Field(3).equals(ZERO).into(), !last]
+        {
+            assert_eq!(logger.build(&rule), store.build(&rule));
+            assert_eq!(logger.as_store(), &store);
+        }
+        assert_eq!(logger.as_store().as_words()[..4], [3, 3, 4, order.number()]);
+        assert_eq!(Store::from(logger), store);
+    }
+}
+
+#[test]
+fn a_store_beyond_the_loggers_limits_is_none_of_its_own() {
+    let none: [Question; 0] = [];
+    for (fields, larger) in [(6, false), (7, true)] {
+        let words = Store::open(fields, Order::FieldsFirst, none, 0).unwrap().into_words();
+        assert_eq!(LoggerStore::from_words(words).is_err(), larger);
+    }
+    for (questions, larger) in [(8, false), (9, true)] {
+        let words = Store::open(1, Order::FieldsFirst, numbers(questions), 0).unwrap().into_words();
+        assert_eq!(LoggerStore::from_words(words).is_err(), larger);
+    }
+    assert_eq!(LoggerStore::from_words(vec![7, 0, 0, 0]), Err(Refusal::NotSound));
+    assert_eq!(LoggerStore::from_words(vec![]), Err(Refusal::NotSound));
+}
+
+/// Rules that answer each of the questions yes or no, in every way.
+fn all_answers(questions: &[Equation]) -> impl Iterator<Item = Rule> + '_ {
+    (0..1 << questions.len()).map(|answers: u32| {
+        let parts = questions.iter().enumerate().map(|(i, question)| match answers >> i & 1 {
+            1 => Rule::from(*question),
+            _ => !Rule::from(*question),
+        });
+        parts.fold(Rule::Always, |all, part| all & part)
+    })
+}
+
+#[test]
+fn the_logger_uses_200_entries_at_most() {
+    let mut questions: Vec<Equation> = (1..=6).map(|field| Field(field).equals(ZERO)).collect();
+    questions.extend([Field(6).equals(Field(1)), Field(6).equals(Field(2))]);
+    // A store of the institute, which has words for more entries.
+    let words = Store::open(6, Order::FieldsFirst, questions.clone(), 300).unwrap().into_words();
+    let mut logger = LoggerStore::from_words(words).unwrap();
+    assert_eq!((logger.room(), logger.as_store().room()), (200, 300));
+
+    let refused = all_answers(&questions).find(|rule| logger.build(rule) == Err(Refusal::NoRoom)).unwrap();
+    assert!((193..=200).contains(&logger.as_store().used()));
+    let mut store = Store::from(logger);
+    let handle = store.build(&refused).unwrap();
+    assert_eq!((store.used() > 200, store.verdict(handle)), (true, Ok(Verdict::Sometimes)));
+    assert_eq!(LoggerStore::from_words(store.into_words()), Err(Refusal::NotSound));
+}
+
+#[test]
+fn refusals_name_the_limits_of_both() {
+    let (institute, logger) = (Limits::INSTITUTE, Limits::LOGGER);
+    let named = |refusal: Refusal, limits: String| assert!(refusal.to_string().contains(&limits), "{refusal}");
+    named(Refusal::TooManyFields, format!("at most {} fields", institute.fields));
+    named(Refusal::TooManyFields, format!("of the deck logger at most {}", logger.fields));
+    named(Refusal::TooManyQuestions, format!("at most {} questions", institute.questions));
+    named(Refusal::TooManyQuestions, format!("of the deck logger at most {}", logger.questions));
+    let Limits { fields, questions, entries } = logger;
+    named(Refusal::NotSound, format!("more than {fields} fields, {questions} questions or {entries} entries"));
+    named(Refusal::NoRoom, format!("more than {},{:03}", institute.entries / 1_000, institute.entries % 1_000));
+    named(Refusal::NoRoom, format!("of the deck logger more than {entries}"));
 }
 
 /// A diagram's entry by its equation and the numbers of its handles.

@@ -22,13 +22,13 @@ fn opened(comparison: &mut Comparison, n: u32, list: &[u32], length: usize) -> V
     opened_in(comparison, n, FIELDS_FIRST, list, length)
 }
 
-fn answer(comparison: &mut Comparison, outcome: &Outcome, number: u32, result: u32) {
+pub fn answer(comparison: &mut Comparison, outcome: &Outcome, number: u32, result: u32) {
     let given = outcome.answer;
     comparison
         .test(EXACT, (given.number, given.result) == (number, result), || format!("{given:?}, not {number} {result}"));
 }
 
-fn equal<T: PartialEq + std::fmt::Debug>(comparison: &mut Comparison, left: T, right: T) {
+pub fn equal<T: PartialEq + std::fmt::Debug>(comparison: &mut Comparison, left: T, right: T) {
     comparison.test(EXACT, left == right, || format!("{left:?} and {right:?}"));
 }
 

@@ -82,7 +82,8 @@ fn after_acceptance(
     }
 }
 
-fn test_law(comparison: &mut Comparison, survey: &Survey, ledger: &Ledger, store: &[u32]) {
+/// Tests the handle law on the ledger of a list of calls.
+pub fn test_law(comparison: &mut Comparison, survey: &Survey, ledger: &Ledger, store: &[u32]) {
     let law = ledger.check_law();
     for _ in 0..*law.as_ref().unwrap_or(&1) {
         comparison.test("two pairs of a ledger", law.is_ok(), || format!("{law:?} {survey:?} {store:?}"));

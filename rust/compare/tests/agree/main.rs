@@ -6,6 +6,8 @@ mod cases;
 mod hostile;
 mod limits;
 mod lists;
+mod logger;
+mod logger_cases;
 mod normal_forms;
 
 use std::process::ExitCode;
@@ -28,7 +30,7 @@ fn main() -> ExitCode {
 
     let mut comparison = Comparison::default();
     type Suite = fn(&mut Comparison, &mut Random, u64);
-    let suites: [(&str, Suite); 16] = [
+    let suites: [(&str, Suite); 19] = [
         ("the documents' cases", cases::document_cases),
         ("simplify", hostile::simplify),
         ("the two ways to find possible answers", lists::possible_answers),
@@ -41,6 +43,9 @@ fn main() -> ExitCode {
         ("damaged stores", hostile::damaged_stores),
         ("limits", limits::limits),
         ("large diagrams", limits::large_diagrams),
+        ("the logger's worked cases", logger_cases::worked_cases),
+        ("logger and institute side by side", logger::side_by_side),
+        ("stores beyond the logger's limits", logger::larger_stores),
         ("the worked cases of another tool's diagrams", normal_forms::worked_cases),
         ("all small diagrams", normal_forms::all_small),
         ("diagrams close to a normal form", normal_forms::close_to_normal),
