@@ -28,12 +28,13 @@ use Rattle.terms.specs.declared.limits.Limits.{Limits}
 use Rattle.terms.specs.Meaning.{Valuation}
 use Rattle.operations.proofs.FinishedInStore.{finished-alike}
 use Rattle.operations.proofs.MeaningAdded.{added-cases}
+use Rattle.operations.proofs.NumberedQuestions.{questions-alike}
 use Rattle.store.proofs.SoundTree.{falling}
 use Rattle.store.proofs.StoreWords.{meaning-agrees}
 use Rattle.store.proofs.Tests.{first-passes, second-passes}
 use Rattle.logger.proofs.CallOnSound.{of-handles, call-fault, unless-fault, call-on-sound}
 use Rattle.logger.proofs.InsertSame.{insert-same}
-use Rattle.logger.proofs.SameEntries.{SameEntries, questions-alike}
+use Rattle.logger.proofs.SameEntries.{SameEntries}
 
 -- ---- accepted or not, by the number
 handle-accepted : (h : ℕ) → was-accepted (Handle h) ≡ true
@@ -115,7 +116,7 @@ module _ {limits limits′ : Limits} {s s′ : List ℕ} (snd : Sound limits s) 
   tree-same : (c : Call) → call-fault limits s c ≡ none → finished-in s (rule-of-call [] s c) ≡ finished-in s′ (rule-of-call [] s′ c)
   tree-same c e =
       finished-alike s (rule-of-call [] s c) (rule-of-call [] s′ c) (rule-same c e)
-      ∙ ap (λ qs. finished qs (rule-of-call [] s′ c)) (sym (questions-alike same))
+      ∙ ap (λ qs. finished qs (rule-of-call [] s′ c)) (sym (questions-alike (same .agree)))
 
   -- ---- the call
   -- a claim about refusals of whatever kind, or about those of one fault

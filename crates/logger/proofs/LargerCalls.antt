@@ -1,13 +1,13 @@
 -- A call that is accepted within smaller limits gives, within larger ones, the same handle and the same words: its table is taken there too, and each entry that
 -- found room finds it there.
-use Prim.Native.Nat.{ℕ, zero, suc, _+_, _%_}
+use Prim.Native.Nat.{ℕ, _+_, _%_}
 use mathlib.Core.Path.{_≡_, refl, ap, _∙_}
-use mathlib.Core.Bool.{Bool, true, false, cond, _&&_}
+use mathlib.Core.Bool.{cond}
 use mathlib.Core.List.{List, []}
-use mathlib.Core.Option.{Option, none, some}
+use mathlib.Core.Option.{none}
 use native.Mathlib.Omega.{arith}
-use borrow.Author.Tests.{lt-ltb}
-use lib.Dec.{eqb, ltb}
+use borrow.Author.Tests.{lt-ltb, le-ltb, eq-eqb, ne-eqb}
+use lib.Dec.{ltb}
 use lib.ListN.{length}
 use Rattle.diagram.specs.declared.placing.Placed.{Placed}
 use Rattle.diagram.specs.declared.placing.Placed.the-variants.{At, Full}
@@ -22,84 +22,56 @@ use Rattle.store.specs.Entries.{find-entry, with-entry}
 use Rattle.store.specs.Layout.{field-count, used, entry-of, leaves, room}
 use Rattle.store.specs.Outcome.{Outcome, outcome}
 use Rattle.store.specs.Tree.{Tree, leaf, node}
-use Rattle.tables.specs.declared.answer.TableFault.{TableFault}
-use Rattle.tables.specs.declared.answer.TableFault.the-variants.{NoWords, NotRows, TooManyRows, BadRow, OutOfLimits, NotListed}
 use Rattle.tables.specs.declared.decoding.Shape.{Shape}
 use Rattle.tables.specs.declared.decoding.Shape.the-variants as shape
 use Rattle.tables.specs.declared.row.Row.{Row}
 use Rattle.tables.specs.Decoding.{decode}
-use Rattle.tables.specs.Faults.{well-formed, equation-fault, shape-fault, row-fault, if-fine, rows-fault, table-fault}
-use Rattle.tables.specs.Listed.{guard-listed}
+use Rattle.tables.specs.Faults.{equation-fault, shape-fault, row-fault, table-fault}
 use Rattle.tables.specs.Rows.{row-length, row-count, most-rows, row}
 use Rattle.terms.specs.declared.limits.Limits.{Limits}
 use Rattle.terms.specs.declared.term.Equation.{Equation}
 use Rattle.terms.specs.Limits.{terms-within}
-use Rattle.terms.specs.Simplify.{simplify}
-use Rattle.terms.specs.Words.{allows}
 use Rattle.diagram.proofs.InsertTree.{then-cases}
 use Rattle.operations.proofs.BuiltCases.{not-both}
 use Rattle.operations.proofs.CallCases.{TestPassed, call-cases}
 use Rattle.operations.proofs.MeaningAdded.{added-cases}
 use Rattle.store.proofs.SoundFacts.{sound-says}
+use Rattle.tables.proofs.TableTaken.{all-fine, equation-taken, RowTaken, table-taken}
 use Rattle.terms.proofs.Cases.{by-test, by-lt}
 use Rattle.logger.proofs.CallOnSound.{of-table, of-handles, call-fault, unless-fault, call-on-sound}
 use Rattle.logger.proofs.InsertSame.{not-full, after-no, after-yes}
-use Rattle.logger.proofs.LargerLimits.{terms-allowed, sound-larger}
+use Rattle.logger.proofs.LargerLimits.{term-allowed, sound-larger}
 
 -- ---- tables
--- a fault is not none
-no-fault : {f : TableFault} → some f ≡ none → ⊥
-no-fault e = let z : _≡_ {A = ℕ} 0 1 = cc in omega arith
-
--- what has no fault behind a test, or behind a first part, has none if each part has none
-unless-test : (t : Bool) (f : TableFault) {x y : Option TableFault} → (x ≡ none → y ≡ none) → cond t (some f) x ≡ none → cond t (some f) y ≡ none
-unless-test true f g e = e
-unless-test false f g e = g e
-
-where-test : (t : Bool) (f : TableFault) {x y : Option TableFault} → (x ≡ none → y ≡ none) → cond t x (some f) ≡ none → cond t y (some f) ≡ none
-where-test true f g e = g e
-where-test false f g e = e
-
-both-fine : (x y : Option TableFault) {u v : Option TableFault} → (x ≡ none → y ≡ none) → (u ≡ none → v ≡ none) → if-fine x u ≡ none → if-fine y v ≡ none
-both-fine none y f g e = rw (f refl) (g e)
-both-fine (some a) y f g e = absurd (no-fault e)
-
 module _ {limits larger : Limits} (small : Smaller limits larger) (s : List ℕ) where
-  equation-taken : (e : Equation) → equation-fault (terms-within limits (field-count s)) s e ≡ none → equation-fault (terms-within larger (field-count s)) s e ≡ none
+  equation-larger : (e : Equation) → equation-fault (terms-within limits (field-count s)) s e ≡ none → equation-fault (terms-within larger (field-count s)) s e ≡ none
   unfolding equation-fault
-  equation-taken e =
-      let listed : Option TableFault = cond (guard-listed s (simplify e)) none (some NotListed) in
-      let within = terms-within limits (field-count s) in
-      by-test (λ t. cond t listed (some OutOfLimits) ≡ none → equation-fault (terms-within larger (field-count s)) s e ≡ none)
-      (allows within (e .left) && allows within (e .right))
-      (λ t d. rw (equation-fault, terms-allowed small (field-count s) e t) d) (λ _ d. absurd (no-fault d))
+  equation-larger e d =
+      let k = equation-taken (terms-within limits (field-count s)) s e d in
+      let allowed = term-allowed small (field-count s) in
+      rw (equation-fault, allowed (e .left) (k .left-allowed), allowed (e .right) (k .right-allowed), k .listed)
 
-  shape-taken : (x : Shape) → shape-fault (terms-within limits (field-count s)) s x ≡ none → shape-fault (terms-within larger (field-count s)) s x ≡ none
-  shape-taken (shape.Leaf b) e = refl
-  shape-taken (shape.Equation q) e = equation-taken q e
-  shape-taken (shape.Choice a b c) e = refl
+  shape-larger : (x : Shape) → shape-fault (terms-within limits (field-count s)) s x ≡ none → shape-fault (terms-within larger (field-count s)) s x ≡ none
+  shape-larger (shape.Leaf b) e = refl
+  shape-larger (shape.Equation q) e = equation-larger q e
+  shape-larger (shape.Choice a b c) e = refl
 
-  row-taken : (i : ℕ) (r : Row) → row-fault (terms-within limits (field-count s)) s i r ≡ none → row-fault (terms-within larger (field-count s)) s i r ≡ none
+  row-larger : (i : ℕ) (r : Row) → RowTaken (terms-within limits (field-count s)) s i r → row-fault (terms-within larger (field-count s)) s i r ≡ none
   unfolding row-fault
-  row-taken i r = where-test (well-formed i r) BadRow (shape-taken (decode r))
+  row-larger i r k = rw (k .formed) (shape-larger (decode r) (k .shape-fine))
 
-  module _ (table : List ℕ) where
-    rows-taken : (left i : ℕ) → rows-fault (row-fault (terms-within limits (field-count s)) s) table left i ≡ none
-        → rows-fault (row-fault (terms-within larger (field-count s)) s) table left i ≡ none
-    unfolding rows-fault
-    rows-taken zero i e = refl
-    rows-taken (suc left) i e = both-fine _ _ (row-taken i (row table i)) (rows-taken left (i + 1)) e
+  table-larger : (table : List ℕ) → table-fault limits s table ≡ none → table-fault larger s table ≡ none
+  unfolding table-fault
+  table-larger table e =
+      let k = table-taken limits s table e in
+      rw (ne-eqb (length table) 0 (k .some-words), eq-eqb (length table % row-length) 0 (k .whole), le-ltb most-rows (row-count table) (k .few))
+      (all-fine (row-fault (terms-within larger (field-count s)) s) table (row-count table) 0 (λ i _ h. row-larger i (row table i) (k .row-fine i (omega arith))))
 
-    table-taken : table-fault limits s table ≡ none → table-fault larger s table ≡ none
-    unfolding table-fault
-    table-taken = unless-test (eqb (length table) 0) NoWords (where-test (eqb (length table % row-length) 0) NotRows
-        (unless-test (ltb most-rows (row-count table)) TooManyRows (rows-taken (row-count table) 0)))
-
-  test-passed : (c : Call) → TestPassed limits s c → call-fault larger s c ≡ none
-  test-passed (build table) t = ap of-table (table-taken table t)
-  test-passed (negate a) t = ap of-handles t
-  test-passed (join a b) t = ap of-handles t
-  test-passed (choose a b c) t = ap of-handles t
+  test-larger : (c : Call) → TestPassed limits s c → call-fault larger s c ≡ none
+  test-larger (build table) t = ap of-table (table-larger table t)
+  test-larger (negate a) t = ap of-handles t
+  test-larger (join a b) t = ap of-handles t
+  test-larger (choose a b c) t = ap of-handles t
 
 -- ---- diagrams
 then-at : {o : Outcome Placed} (next : ℕ → List ℕ → Outcome Placed) {g : ℕ} → o .answer ≡ At g → then-place o next ≡ next g (o .words)
@@ -145,5 +117,5 @@ module _ {limits larger : Limits} (small : Smaller limits larger) where
       (λ is t e.
       let rule = rule-of-call [] s c in
       call-on-sound (sound-larger small (sound-says limits s is)) c
-      ∙ ap (λ x. unless-fault s x (add-meaning larger s rule)) (test-passed small s c t)
+      ∙ ap (λ x. unless-fault s x (add-meaning larger s rule)) (test-larger small s c t)
       ∙ added-larger s (finished-in s rule) h e)

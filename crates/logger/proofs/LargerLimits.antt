@@ -1,7 +1,7 @@
 -- What keeps smaller limits keeps larger ones: each test of a store, of an opening and of a table compares with a limit, and no limit is smaller.
 use Prim.Native.Nat.{ℕ, zero, suc, _+_, _/_}
 use mathlib.Core.Path.{_≡_, refl, sym, ap, _∙_}
-use mathlib.Core.Bool.{true, _&&_}
+use mathlib.Core.Bool.{true}
 use mathlib.Core.List.{List}
 use native.Mathlib.Omega.{arith}
 use borrow.Author.Tests.{le-leb}
@@ -14,7 +14,6 @@ use Rattle.store.specs.Open.{question-fault, list-fault, opening, opened, open-
 use Rattle.store.specs.Sound.{sound}
 use Rattle.store.specs.SoundParts.{Sound}
 use Rattle.terms.specs.declared.limits.Limits.{Limits}
-use Rattle.terms.specs.declared.term.Equation.{Equation}
 use Rattle.terms.specs.declared.term.Term.{Term}
 use Rattle.terms.specs.Limits.{terms-within}
 use Rattle.terms.specs.Order.{Order, order-of, order-named}
@@ -27,20 +26,17 @@ use Rattle.store.proofs.Tests.{first-passes, second-passes}
 use Rattle.terms.proofs.OrderNumbers.{number-names}
 use Rattle.terms.proofs.TermKept.{allows-says}
 
+-- limits are no larger than themselves
+pub smaller-same : (limits : Limits) → Smaller limits limits
+smaller-same limits = record { fields-in = omega arith; steps-in = omega arith; questions-in = omega arith; entries-in = omega arith }
+
 module _ {limits larger : Limits} (small : Smaller limits larger) (n : ℕ) where
   -- ---- terms
-  term-allowed : (t : Term) → allows (terms-within limits n) t ≡ true → allows (terms-within larger n) t ≡ true
+  pub term-allowed : (t : Term) → allows (terms-within limits n) t ≡ true → allows (terms-within larger n) t ≡ true
   unfolding allows
   term-allowed t e =
       let k = allows-says (terms-within limits n) t e in
       simp (le-leb (t .field .0) n (k .field-in), le-leb (t .steps .0) (larger .terms .steps .0) (omega (arith, k .steps-in, small .steps-in)))
-
-  pub terms-allowed : (e : Equation) → (allows (terms-within limits n) (e .left) && allows (terms-within limits n) (e .right)) ≡ true
-      → (allows (terms-within larger n) (e .left) && allows (terms-within larger n) (e .right)) ≡ true
-  terms-allowed e t =
-      let left = allows (terms-within limits n) (e .left) in
-      let right = allows (terms-within limits n) (e .right) in
-      rw (term-allowed (e .left) (first-passes left right t), term-allowed (e .right) (second-passes left right t))
 
   -- ---- lists
   module _ (order : Order) (words : List ℕ) where
@@ -48,8 +44,10 @@ module _ {limits larger : Limits} (small : Smaller limits larger) (n : ℕ) wher
     unfolding question-fault
     question-accepted k e =
         let q = question-in words k in
-        let allowed = accepted-allows order (terms-within limits n) words k e in
-        rw (terms-allowed q allowed) (rw allowed at e)
+        let both = accepted-allows order (terms-within limits n) words k e in
+        let left = allows (terms-within limits n) (q .left) in
+        let right = allows (terms-within limits n) (q .right) in
+        rw (term-allowed (q .left) (first-passes left right both), term-allowed (q .right) (second-passes left right both)) (rw both at e)
 
     list-accepted : (left k : ℕ) → list-fault order (terms-within limits n) words left k ≡ Accepted → list-fault order (terms-within larger n) words left k ≡ Accepted
     unfolding list-fault

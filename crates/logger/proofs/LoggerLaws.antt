@@ -1,16 +1,18 @@
--- What holds at any limits, at the logger's: each statement on one line, by the theorem that it is an instance of.
+-- What holds at any limits, at the logger's: each statement is an instance of the theorem that its proof names.
 use Prim.Native.Nat.{ℕ, _+_, _<_}
 use mathlib.Core.Path.{_≡_, refl}
-use mathlib.Core.Logic.{_↔_}
+use mathlib.Core.Logic.{_⊎_, inl, inr, _↔_}
 use mathlib.Core.Bool.{true}
-use mathlib.Core.List.{List, map}
+use mathlib.Core.List.{List, [], _∷_, map}
 use mathlib.Core.Option.{none}
 use native.Mathlib.Omega.{arith}
 use lib.ListN.{length}
 use Rattle.diagram.specs.Insert.{new-count}
 use Rattle.diagram.specs.Questions.{finished-in}
-use Rattle.logger.specs.SameBooks.{AcceptedAlike, SameRuns}
-use Rattle.logger.specs.SmallerLimits.{Smaller, Beyond}
+use Rattle.logger.specs.SameStores.{AcceptedAlike, SameRuns}
+use Rattle.logger.specs.SmallerLimits.{Smaller}
+use Rattle.logger.specs.Beyond.{Beyond}
+use Rattle.logger.specs.MixedCalls.{by-either, run-within, EachSmaller}
 use Rattle.logger.specs.AnswersTo.{answers-to}
 use Rattle.operations.specs.declared.answer.BuildFault.the-variants.{NotSound, NoRoom}
 use Rattle.operations.specs.declared.answer.Built.the-variants.{Handle, Refused}
@@ -34,12 +36,12 @@ use Rattle.operations.proofs.HandleLaw.{handle-law}
 use Rattle.operations.proofs.NotVacuous.{full-exactly}
 use Rattle.store.proofs.OpenSound.{opened-sound}
 use Rattle.store.proofs.SoundFacts.{sound-says}
-use Rattle.logger.proofs.MixedLaw.{law-ashore}
-use Rattle.logger.proofs.BeyondLimits.{beyond-refused}
+use Rattle.logger.proofs.MixedLaw.{mixed-law}
+use Rattle.logger.proofs.BeyondLimits.{beyond-refused, beyond-exactly}
 use Rattle.logger.proofs.CallOnSound.{call-on-sound}
 use Rattle.logger.proofs.LargerCalls.{smaller-calls}
-use Rattle.logger.proofs.LargerLimits.{smaller-sound, smaller-opens}
-use Rattle.logger.proofs.SameCalls.{same-calls, same-numbers}
+use Rattle.logger.proofs.LargerLimits.{smaller-same, smaller-sound, smaller-opens}
+use Rattle.logger.proofs.SameCalls.{same-calls, same-numbers, same-words}
 
 -- ---- the logger's store by itself
 -- any n, order and list, and a store of any length, that the logger's opening accepts
@@ -71,6 +73,10 @@ module _ (s table : List ℕ) where
   pub logger-beyond : Beyond logger-limits s → build logger-limits s table ≡ refused s NotSound
   logger-beyond b = beyond-refused logger-limits s b (handles.build table)
 
+-- and of the institute's stores no others are
+pub logger-beyond-exactly : (s : List ℕ) → sound store-limits s ≡ true → (sound logger-limits s ≡ true) ↔ (Beyond logger-limits s → ⊥)
+logger-beyond-exactly s = beyond-exactly logger-limits s store-limits refl
+
 -- ---- the logger's store and the institute's
 pub logger-smaller : Smaller logger-limits store-limits
 logger-smaller = record { fields-in = omega arith; steps-in = omega arith; questions-in = omega arith; entries-in = omega arith }
@@ -79,38 +85,48 @@ logger-smaller = record { fields-in = omega arith; steps-in = omega arith; quest
 -- handles.": any n, order and list, lent stores of any two lengths, and any list of rule tables, any words at all
 module _ (n order : ℕ) (list s s′ : List ℕ) (e : opening logger-limits n order list (length s) ≡ Accepted) (e′ : opening store-limits n order list (length s′) ≡ Accepted)
     (tables : List (List ℕ)) where
-  abbrev at-sea : Books
-  at-sea = opened-books n order list (length s)
+  abbrev logger-books : Books
+  logger-books = opened-books n order list (length s)
 
-  abbrev ashore : Books
-  ashore = opened-books n order list (length s′)
+  abbrev institute-books : Books
+  institute-books = opened-books n order list (length s′)
 
   abbrev builds : List Call
   builds = map handles.build tables
 
-  pub same-builds : AcceptedAlike logger-limits store-limits at-sea ashore builds → SameRuns logger-limits store-limits at-sea ashore builds
+  pub same-builds : AcceptedAlike logger-limits store-limits logger-books institute-books builds → SameRuns logger-limits store-limits logger-books institute-books builds
   same-builds = same-calls logger-limits store-limits n order list s s′ e e′ builds
 
   -- the refusals' numbers too, as the limit of steps is one
-  pub same-build-numbers : AcceptedAlike logger-limits store-limits at-sea ashore builds
-      → map built-number (answers-to logger-limits at-sea builds) ≡ map built-number (answers-to store-limits ashore builds)
+  pub same-build-numbers : AcceptedAlike logger-limits store-limits logger-books institute-books builds
+      → map built-number (answers-to logger-limits logger-books builds) ≡ map built-number (answers-to store-limits institute-books builds)
   same-build-numbers = same-numbers logger-limits store-limits n order list s s′ e e′ refl builds
 
--- ---- taken ashore
--- A logger's store is a store,
-pub logger-sound-ashore : (s : List ℕ) → sound logger-limits s ≡ true → sound store-limits s ≡ true
-logger-sound-ashore = smaller-sound logger-smaller
+  -- and every word, where the lengths are the same
+  pub same-build-words : length s ≡ length s′ → AcceptedAlike logger-limits store-limits logger-books institute-books builds
+      → run logger-limits logger-books builds .words ≡ run store-limits institute-books builds .words
+  same-build-words long = same-words logger-limits store-limits n order list s s′ e e′ long builds
 
--- the logger's opening, where it is accepted, is the ordinary one,
-pub logger-opens-ashore : (n order : ℕ) (list s : List ℕ) → open-store logger-limits n order list s .answer ≡ Accepted
+-- ---- the logger's store among the institute's
+-- A logger's store is a store of the institute's,
+pub logger-store-sound : (s : List ℕ) → sound logger-limits s ≡ true → sound store-limits s ≡ true
+logger-store-sound = smaller-sound logger-smaller
+
+-- the logger's opening, where it is accepted, is the institute's,
+pub logger-open-same : (n order : ℕ) (list s : List ℕ) → open-store logger-limits n order list s .answer ≡ Accepted
     → open-store store-limits n order list s ≡ open-store logger-limits n order list s
-logger-opens-ashore = smaller-opens logger-smaller
+logger-open-same = smaller-opens logger-smaller
 
 -- and so is its build: the same handle and the same words.
-pub logger-builds-ashore : (s table : List ℕ) (h : ℕ) → build logger-limits s table .answer ≡ Handle h → build store-limits s table ≡ build logger-limits s table
-logger-builds-ashore s table = smaller-calls logger-smaller s (handles.build table)
+pub logger-build-same : (s table : List ℕ) (h : ℕ) → build logger-limits s table .answer ≡ Handle h → build store-limits s table ≡ build logger-limits s table
+logger-build-same s table = smaller-calls logger-smaller s (handles.build table)
 
--- The handle law holds after calls at sea and then ashore, in one ledger.
-pub logger-law-ashore : (n order : ℕ) (list s : List ℕ) → opening logger-limits n order list (length s) ≡ Accepted → (at-sea ashore : List Call)
-    → HandleLaw (run store-limits (run logger-limits (opened-books n order list (length s)) at-sea) ashore .ledger)
-logger-law-ashore = law-ashore logger-limits store-limits logger-smaller
+-- The handle law covers the logger's calls and the institute's on the logger's store, in whatever order they come, accepted or refused.
+pub logger-mixed-law : (n order : ℕ) (list s : List ℕ) → opening logger-limits n order list (length s) ≡ Accepted → (calls : List (Call ⊎ Call))
+    → HandleLaw (run-within (opened-books n order list (length s)) (map by-either calls) .ledger)
+logger-mixed-law n order list s e calls = mixed-law logger-limits store-limits logger-smaller n order list s e (map by-either calls) (each calls)
+  where
+    each : (calls : List (Call ⊎ Call)) → EachSmaller store-limits (map by-either calls)
+    each [] = tt
+    each (inl c ∷ cs) = (logger-smaller, each cs)
+    each (inr c ∷ cs) = (smaller-same store-limits, each cs)

@@ -7,7 +7,7 @@ use native.Mathlib.Omega.{arith}
 use native.Mathlib.Decide.{decLt, ℕ-discrete}
 use lib.ListN.{length, getD, drop, replicate, length-take, length-drop, List·getD-append}
 use lib.Seq.{getD-take, getD-drop, ext-getD}
-use Rattle.logger.specs.SameBooks.{entry-words, SameBooks, AcceptedAlike, SameRuns}
+use Rattle.logger.specs.SameStores.{entry-words, SameStores, AcceptedAlike, SameRuns}
 use Rattle.logger.specs.AnswersTo.{answers-to}
 use Rattle.operations.specs.declared.answer.Built.{Built}
 use Rattle.operations.specs.Built.{built-number, built-result}
@@ -28,7 +28,7 @@ use Rattle.logger.proofs.FaultSame.{fault-same}
 use Rattle.logger.proofs.SameEntries.{SameEntries}
 
 -- ---- the opening
--- the words of two lengths are the same up to the shorter one's zeros
+-- heading and list are the same, and only the number of zeros behind them differs
 opened-same : (n order : ℕ) (list : List ℕ) (words words′ : ℕ) → 2 * (length list / 2) ≡ length list
     → SameEntries (opened-words n order list words) (opened-words n order list words′)
 unfolding opened-words
@@ -71,7 +71,7 @@ results-same : (limits limits′ : Limits) → EachSame built-result limits limi
 results-same limits limits′ b b′ a c = result-same (a .sound) (a .sound′) (a .entries) c
 
 numbers-same : (limits limits′ : Limits) → limits .terms .steps ≡ limits′ .terms .steps → EachSame built-number limits limits′
-numbers-same limits limits′ steps b b′ a c = number-same (a .sound) (a .sound′) (a .entries) c (sym (fault-same (a .entries) limits limits′ (sym steps) c))
+numbers-same limits limits′ steps b b′ a c = number-same (a .sound) (a .sound′) (a .entries) c (fault-same (a .entries) limits limits′ steps c)
 
 -- ---- the words
 entry-words-same : {limits limits′ : Limits} {s s′ : List ℕ} → Sound limits s → Sound limits′ s′ → SameEntries s s′ → entry-words s ≡ entry-words s′
@@ -88,8 +88,8 @@ entry-words-same {s = s} {s′} snd snd′ same =
     ∙ ap (λ x. getD s′ (x + k) 0) (sym start)
     ∙ sym (getD-take (3 * used s′) (drop (entries-start s′) s′) k 0 (omega (arith, same .same-used)) ∙ getD-drop (entries-start s′) s′ k 0))
 
-books-same : {limits limits′ : Limits} {b b′ : Books} → Alike limits limits′ b b′ → SameBooks (b .words) (b′ .words)
-books-same a =
+stores-same : {limits limits′ : Limits} {b b′ : Books} → Alike limits limits′ b b′ → SameStores (b .words) (b′ .words)
+stores-same a =
     let agree = a .entries .agree in
     record {
       same-fields = sym (fields-agree agree);
@@ -134,7 +134,7 @@ module _ (limits limits′ : Limits) (n order : ℕ) (list s s′ : List ℕ)
   pub same-calls : (calls : List Call) → AcceptedAlike limits limits′ books books′ calls → SameRuns limits limits′ books books′ calls
   same-calls calls alike =
       let r = run-same built-result limits limits′ (results-same limits limits′) calls books books′ opened-alike alike in
-      record { same-results = r .0; same-books = books-same (r .1) }
+      record { same-results = r .0; same-stores = stores-same (r .1) }
 
   -- At one limit of steps the numbers are the same too: those of a table and of handles read nothing else that may differ, and no call answers 22.
   pub same-numbers : limits .terms .steps ≡ limits′ .terms .steps → (calls : List Call) → AcceptedAlike limits limits′ books books′ calls

@@ -1,4 +1,5 @@
 pub mod AnswersTo
-pub mod SameBooks
+pub mod SameStores
 pub mod SmallerLimits
+pub mod Beyond
 pub mod MixedCalls

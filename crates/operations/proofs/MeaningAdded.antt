@@ -8,7 +8,7 @@ use Rattle.diagram.specs.declared.placing.Placed.{Placed}
 use Rattle.diagram.specs.declared.placing.Placed.the-variants.{At, Full}
 use Rattle.diagram.specs.Insert.{insert}
 use Rattle.diagram.specs.Inserted.{Inserted}
-use Rattle.diagram.specs.Questions.{questions-from, finished-in}
+use Rattle.diagram.specs.Questions.{finished-in}
 use Rattle.operations.specs.declared.answer.BuildFault.{BuildFault}
 use Rattle.operations.specs.declared.answer.BuildFault.the-variants.{NoRoom}
 use Rattle.operations.specs.declared.answer.Built.{Built}
@@ -17,7 +17,6 @@ use Rattle.operations.specs.Later.{Later}
 use Rattle.operations.specs.Operations.{refused, unless-full, added, add-meaning}
 use Rattle.operations.specs.Rests.{Rests}
 use Rattle.operations.specs.Stands.{Stands}
-use Rattle.store.specs.Layout.{question-count}
 use Rattle.store.specs.Meaning.{meaning}
 use Rattle.store.specs.Outcome.{Outcome, outcome}
 use Rattle.store.specs.SoundParts.{Sound}
@@ -29,7 +28,7 @@ use Rattle.diagram.proofs.InsertTree.{insert-tree}
 use Rattle.operations.proofs.BuiltCases.{not-both}
 use Rattle.store.proofs.StoreWords.{orders-agree}
 use Rattle.operations.proofs.FinishedInStore.{finished-ascending, finished-reduced, finished-alike}
-use Rattle.operations.proofs.NumberedQuestions.{questions-same}
+use Rattle.operations.proofs.NumberedQuestions.{questions-alike}
 use Rattle.operations.proofs.StandingDiagrams.{later-same, stands-alike, rests-later, finished-later, stands-means}
 
 pub added-cases : (limits : Limits) (s : List ℕ) (t : Tree) (P : Outcome Built → Type 0)
@@ -42,14 +41,14 @@ added-cases limits s t P at full = go (insert limits s t .answer) refl
     go Full d = rw (added, d) full
 
 inserted-later : {limits : Limits} {s : List ℕ} {t : Tree} {h : ℕ} {s′ : List ℕ} → Inserted limits s t h s′ → Later limits s s′
-inserted-later {s = s} {s′ = s′} i = record {
+inserted-later i = record {
   sound = i .sound;
   grows = i .grows;
   older-tree = i .older-tree;
   older-meaning = i .older-meaning;
   same-fields = i .fields-kept;
   same-order = orders-agree (i .agree);
-  same-questions = ap (λ q. questions-from s′ q 1) (i .questions-kept) ∙ questions-same s s′ (i .question-kept) (question-count s) 1;
+  same-questions = questions-alike (i .agree);
   length-kept = i .length-kept;
 }
 

@@ -1,16 +1,18 @@
 -- A store's list holds the questions with the numbers from 1 on, so a claim about each number is a claim about the list, and the other way round.
 use Prim.Native.Nat.{ℕ, zero, suc, _+_, _≤_, _<_}
-use mathlib.Core.Path.{_≡_, refl, sym, ap, ap₂, subst}
+use mathlib.Core.Path.{_≡_, refl, sym, ap, ap₂, _∙_, subst}
 use mathlib.Core.List.{List, _∷_}
 use native.Mathlib.Omega.{arith}
 use native.Mathlib.Decide.{ℕ-discrete}
 use borrow.Author.Tests.{eq-eqb, ne-eqb}
 use Rattle.diagram.specs.Finish.{answers-from}
-use Rattle.diagram.specs.Questions.{questions-from}
+use Rattle.diagram.specs.Questions.{questions-from, questions}
 use Rattle.facts.specs.Least.{All}
-use Rattle.store.specs.Layout.{question}
+use Rattle.store.specs.Grown.{Agree}
+use Rattle.store.specs.Layout.{question-count, question}
 use Rattle.terms.specs.declared.term.Equation.{Equation}
 use Rattle.terms.specs.Meaning.{Valuation, truth}
+use Rattle.store.proofs.StoreWords.{questions-agree, question-agrees}
 
 module _ (P : Equation → Type 0) (s : List ℕ) where
   pub all-numbered : (left k : ℕ) → All P (questions-from s left k) → (j : ℕ) → k ≤ j → j < k + left → P (question s j)
@@ -36,7 +38,11 @@ answers-numbered s v (suc left) k j h l = elim (ℕ-discrete j k) [
 ]
 
 -- questions with the same numbers are asked
-pub questions-same : (s s′ : List ℕ) → ((k : ℕ) → question s′ k ≡ question s k) → (left k : ℕ) → questions-from s′ left k ≡ questions-from s left k
+questions-same : (s s′ : List ℕ) → ((k : ℕ) → question s′ k ≡ question s k) → (left k : ℕ) → questions-from s′ left k ≡ questions-from s left k
 unfolding questions-from
 questions-same s s′ e zero k = refl
 questions-same s s′ e (suc left) k = ap₂ _∷_ (e k) (questions-same s s′ e left (k + 1))
+
+-- stores whose words agree up to some entry have one list
+pub questions-alike : {s s′ : List ℕ} {m : ℕ} → Agree s s′ m → questions s′ ≡ questions s
+questions-alike {s} {s′} agree = ap (λ q. questions-from s′ q 1) (questions-agree agree) ∙ questions-same s s′ (question-agrees agree) (question-count s) 1

@@ -50,7 +50,7 @@ module _ (s : List ℕ) (e : Entry) where
         let in-words : used-place < length s = omega arith in
         simp (read-back, length-set)
 
-    question-added : getD (with-entry s e) at 0 ≡ e .question
+    pub question-added : getD (with-entry s e) at 0 ≡ e .question
     unfolding with-entry
     question-added =
         let in-words : at < length s = omega arith in
@@ -59,7 +59,7 @@ module _ (s : List ℕ) (e : Entry) where
         let not-no : at ≢ at + 2 = omega arith in
         simp (getD-set-other, read-back)
 
-    yes-added : getD (with-entry s e) (at + 1) 0 ≡ e .yes
+    pub yes-added : getD (with-entry s e) (at + 1) 0 ≡ e .yes
     unfolding with-entry
     yes-added =
         let in-words : at + 1 < length s = omega arith in
@@ -67,7 +67,7 @@ module _ (s : List ℕ) (e : Entry) where
         let not-no : at + 1 ≢ at + 2 = omega arith in
         simp (getD-set-other, read-back, length-set)
 
-    no-added : getD (with-entry s e) (at + 2) 0 ≡ e .no
+    pub no-added : getD (with-entry s e) (at + 2) 0 ≡ e .no
     unfolding with-entry
     no-added =
         let in-words : at + 2 < length s = omega arith in

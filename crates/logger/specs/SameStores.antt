@@ -15,7 +15,7 @@ unfoldable pub entry-words : List ℕ → List ℕ
 entry-words s = take (3 * used s) (drop (entries-start s) s)
 
 -- "the same used entries", and all that stands before them. Nothing is said of the unused words: the stores may be of different lengths.
-pub record SameBooks (s s′ : List ℕ) : Type 0 where
+pub record SameStores (s s′ : List ℕ) : Type 0 where
   pub same-fields : field-count s ≡ field-count s′
   pub same-question-count : question-count s ≡ question-count s′
   pub same-used : used s ≡ used s′
@@ -30,4 +30,4 @@ AcceptedAlike limits limits′ b b′ calls = map was-accepted (answers-to limit
 -- "give the same used entries and handles": the results at each place of the list, and the books after the list
 pub record SameRuns (limits limits′ : Limits) (b b′ : Books) (calls : List Call) : Type 0 where
   pub same-results : map built-result (answers-to limits b calls) ≡ map built-result (answers-to limits′ b′ calls)
-  pub same-books : SameBooks (run limits b calls .words) (run limits′ b′ calls .words)
+  pub same-stores : SameStores (run limits b calls .words) (run limits′ b′ calls .words)
