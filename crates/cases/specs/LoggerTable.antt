@@ -1,4 +1,4 @@
--- Document 02 (xi): the logger's open and build at their limits and one beyond, beside the ordinary ones on the same words.
+-- Document 02 (xi): the logger's open and build at their limits and one beyond, beside the institute's on the same words.
 use Prim.Native.Nat.{ℕ, zero, suc, _*_}
 use mathlib.Core.Bool.{cond}
 use mathlib.Core.List.{List, [], _∷_, _++_}
@@ -6,7 +6,7 @@ use lib.Dec.{eqb}
 use lib.ListN.{take, replicate}
 use Rattle.cases.specs.Case.{open-with, build, logger-open, logger-build, answered, Case}
 
--- n = 7 is 11, with any order; n = 6 with an empty list is accepted, and with another order it is 18. The same n = 7 is no fault ashore.
+-- n = 7 is 11, with any order; n = 6 with an empty list is accepted, and with another order it is 18. For the institute n = 7 is no fault.
 abbrev logger-opens-fields : Case
 logger-opens-fields =
     let s : List ℕ = replicate 4 9 in
@@ -62,7 +62,7 @@ logger-steps =
       expected = answered 0 0 s list ∷ answered 35 0 s beyond ∷ answered 0 2 (6 ∷ 1 ∷ 1 ∷ 0 ∷ 6 ∷ 32736 ∷ 1 ∷ 1 ∷ 0 ∷ []) rule ∷ [];
     }
 
--- A sound store beyond the logger's limits: the rule always is 22 by the logger's build and handle 1 by the ordinary one, and a rule of no words is 22 by the one
+-- A sound store beyond the logger's limits: the rule always is 22 by the logger's build and handle 1 by the institute's, and a rule of no words is 22 by the one
 -- and 31 by the other.
 abbrev beyond-limits : List ℕ → Case
 beyond-limits s =

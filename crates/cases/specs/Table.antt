@@ -448,9 +448,11 @@ check-limits = record {
 
 abbrev pub cases : List Case
 cases =
-    case-1 ∷ case-2 ∷ case-3 ∷ case-4 ∷ case-5-opened ∷ case-5-short ∷ cases-6-to-8 open-with build 0 ∷ cases-6-to-8 open-with build 1 ∷ case-6-short ∷ case-9 ∷ case-11 ∷ case-11-built ∷ case-12
+    case-1 ∷ case-2 ∷ case-3 ∷ case-4 ∷ case-5-opened ∷ case-5-short
+    ∷ cases-6-to-8 open-with build 0 ∷ cases-6-to-8 open-with build 1 ∷ cases-6-to-8 logger-open logger-build 0 ∷ cases-6-to-8 logger-open logger-build 1
+    ∷ case-6-short ∷ case-9 ∷ case-11 ∷ case-11-built ∷ case-12
     ∷ steps-simplified ∷ steps-built ∷ steps-in-a-store ∷ steps-beyond-in-a-store
     ∷ check-shapes ∷ check-examples ∷ check-rule-8 ∷ check-rules-3-to-7 ∷ check-order ∷ check-terms ∷ check-handles
     ∷ check-differing-entries ∷ check-limits
-    ∷ orders-opened ∷ orders-compared ∷ orders-refused ∷ openings-refused ∷ rules-fields-first ∷ rules-left-first ∷ unknown-order-refused ∷ (orders-in-a-store
-    ++ cases-6-to-8 logger-open logger-build 0 ∷ cases-6-to-8 logger-open logger-build 1 ∷ logger-cases)
+    ∷ orders-opened ∷ orders-compared ∷ orders-refused ∷ openings-refused ∷ rules-fields-first ∷ rules-left-first ∷ unknown-order-refused
+    ∷ (orders-in-a-store ++ logger-cases)

@@ -1,4 +1,4 @@
-// Open and build at the logger's limits: the same code as ashore, so that a logger's store is what the same calls make there.
+// Open and build at the logger's limits: the code of open and build, so that the same calls make the same store.
 ghost use mathlib.Core.Path.{_≡_};
 ghost use Rattle.operations.specs.Operations as operation;
 ghost use Rattle.store.specs.Open.{open-store};
