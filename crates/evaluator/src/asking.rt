@@ -2,9 +2,11 @@
 use crate::answer::Answer;
 use crate::answer::answered;
 use crate::answer::refuse;
+use crate::grid::Sheet;
 use crate::grid::sheet_of;
 use crate::grid::sheets_of;
 use crate::layout::fields;
+use crate::limits::MOST_FIELDS;
 use crate::meaning::first_sheet;
 use crate::reaching::rows_of;
 use crate::sound::handle_fault;
@@ -44,7 +46,7 @@ pub fn expect_example(store: &[u32], handle: u32, length: usize) -> u32 {
 }
 
 // The least sheet that satisfies a handle.
-fn least_sheet(store: &[u32], handle: u32) -> [u16; 3] {
+fn least_sheet(store: &[u32], handle: u32) -> Sheet {
     sheet_of(fields(store), first_sheet(store, handle, true))
 }
 
@@ -53,7 +55,7 @@ pub fn is_example(store: &[u32], handle: u32, counts: &[u16]) -> bool {
     let number = expect_example(store, handle, counts.len());
     match number {
         0 => same_counts(counts, &least_sheet(store, handle)),
-        _ => same_counts(counts, &[7; 16]),
+        _ => same_counts(counts, &[7; MOST_FIELDS as usize]),
     }
 }
 

@@ -2,6 +2,7 @@
 use crate::answer::refuse;
 use crate::grid::sheet_of;
 use crate::layout::fields;
+use crate::limits::Limits;
 use crate::rules::table_fault;
 use crate::sound::has_handle;
 use crate::sound::is_sound;
@@ -48,13 +49,13 @@ pub fn row_of(kind: u32, a: u32, b: u32, c: u32) -> Row {
 }
 
 // The refusal of the store, and then of the rule table or of the handles; 0 if there is none.
-pub fn call_fault(store: &[u32], call: Row, table: &[u32]) -> u32 {
-    if !is_sound(store) {
+pub fn call_fault(limits: Limits, store: &[u32], call: Row, table: &[u32]) -> u32 {
+    if !is_sound(limits, store) {
         return 22;
     }
     let kind = call.kind;
     match kind {
-        2 => table_fault(store, table),
+        2 => table_fault(limits, store, table),
         _ => handles_fault(store, call.a, call.b, call.c),
     }
 }

@@ -3,6 +3,8 @@ ghost use Prim.Native.Nat.{_<_};
 use crate::layout::HEADING;
 use crate::layout::questions;
 use crate::layout::used;
+use crate::limits::Limits;
+use crate::limits::MOST_QUESTIONS;
 use crate::words::word_at;
 
 // Where the three words of an entry begin.
@@ -25,10 +27,12 @@ pub fn no_of(store: &[u32], entry: u32) -> u32 {
     word_at(store, entry_place(store, entry) + 2)
 }
 
+const AFTER_ALL: u32 = MOST_QUESTIONS + 1;
+
 // The question number of a handle; a leaf comes after all questions.
 pub fn asked_by(store: &[u32], handle: u32) -> u32 {
     if handle < 2 {
-        return 21;
+        return AFTER_ALL;
     }
     question_of(store, handle - 2)
 }
@@ -60,7 +64,12 @@ pub fn find_entry(store: &[u32], question: u32, yes: u32, no: u32) -> u32 {
     entries
 }
 
-// Whether a store has room for so many entries.
-pub fn has_room(store: &[u32], entries: u32) -> bool {
-    (entries <= 4096) & (entry_place(store, entries) <= store.len())
+// Whether a store has room for so many entries, within limits and by its length.
+pub fn has_room(limits: Limits, store: &[u32], entries: u32) -> bool {
+    (entries <= limits.entries) & fits(store, entries)
+}
+
+// Whether a store is long enough for so many entries.
+pub fn fits(store: &[u32], entries: u32) -> bool {
+    entry_place(store, entries) <= store.len()
 }

@@ -3,15 +3,12 @@ ghost use Prim.Native.Nat.{_<_};
 use crate::answer::refuse;
 use crate::layout::field;
 use crate::layout::steps;
+use crate::limits::Limits;
+use crate::limits::MOST_STEPS;
 use crate::words::word_at;
 
-// The largest number of steps, and how many numbers of steps there are with 0.
-pub const MOST_STEPS: u32 = 1023;
-
-const STEP_COUNTS: u32 = MOST_STEPS + 1;
-
-pub fn bad_term(n: u32, term: u32) -> bool {
-    (field(term) > n) | (steps(term) > MOST_STEPS)
+pub fn bad_term(limits: Limits, n: u32, term: u32) -> bool {
+    (field(term) > n) | (steps(term) > limits.steps)
 }
 
 // Larger field left, no common steps, and no steps on the left of zero.
@@ -24,6 +21,9 @@ pub fn is_question(left: u32, right: u32) -> bool {
 pub fn bad_order(order: u32) -> bool {
     order > 1
 }
+
+// How many numbers of steps there are with 0.
+const STEP_COUNTS: u32 = MOST_STEPS + 1;
 
 // The two numbers of a question that the orders compare in different turn, as the digits of one number: order 0 compares the right field before the
 // left steps, and order 1 after them.
@@ -43,20 +43,20 @@ fn place_of(order: u32, left: u32, right: u32) -> u32 {
 }
 
 // The refusal of a question by itself.
-fn question_fault(n: u32, left: u32, right: u32) -> u32 {
-    let fault = refuse(0, bad_term(n, left) | bad_term(n, right), 14);
-    refuse(fault, !is_question(left, right), 15)
+fn question_fault(limits: Limits, n: u32, left: u32, right: u32) -> u32 {
+    let bad = bad_term(limits, n, left) | bad_term(limits, n, right);
+    refuse(refuse(0, bad, 14), !is_question(left, right), 15)
 }
 
 // The first refusal among the questions of a list that is to be in an order. A question's left field is above 0, so the first place is above 0.
-pub fn questions_fault(n: u32, order: u32, list: &[u32]) -> u32 {
+pub fn questions_fault(limits: Limits, n: u32, order: u32, list: &[u32]) -> u32 {
     let mut fault = 0;
     let mut before = 0;
     for i in 0..list.len() / 2 {
         let left = word_at(list, 2 * i);
         let right = word_at(list, 2 * i + 1);
         let place = place_of(order, left, right);
-        fault = refuse(fault, true, question_fault(n, left, right));
+        fault = refuse(fault, true, question_fault(limits, n, left, right));
         fault = refuse(fault, place <= before, 16);
         before = place;
     }

@@ -2,23 +2,25 @@
 use crate::answer::refuse;
 use crate::layout::HEADING;
 use crate::layout::ORDER_PLACE;
+use crate::limits::Limits;
+use crate::limits::MOST_QUESTIONS;
 use crate::lists::bad_order;
 use crate::lists::questions_fault;
 use crate::words::copy;
 use crate::words::word_at;
 
-// The words of the longest list, of 20 questions.
-const MOST_LISTED: usize = 40;
-
 // The refusal of opening a store of so many words.
-fn open_fault(n: u32, order: u32, list: &[u32], length: usize) -> u32 {
-    let mut fault = refuse(0, n > 16, 11);
+fn open_fault(limits: Limits, n: u32, order: u32, list: &[u32], length: usize) -> u32 {
+    let mut fault = refuse(0, n > limits.fields, 11);
     fault = refuse(fault, bad_order(order), 18);
     fault = refuse(fault, list.len() % 2 == 1, 12);
-    fault = refuse(fault, list.len() > MOST_LISTED, 13);
-    fault = refuse(fault, true, questions_fault(n, order, list));
+    fault = refuse(fault, list.len() / 2 > limits.questions as usize, 13);
+    fault = refuse(fault, true, questions_fault(limits, n, order, list));
     refuse(fault, length < HEADING + list.len(), 21)
 }
+
+// The words of the longest list, and of a heading with it.
+const MOST_LISTED: usize = 2 * MOST_QUESTIONS as usize;
 
 const MOST_OPENED: usize = HEADING + MOST_LISTED;
 
@@ -38,9 +40,16 @@ pub fn write_opened(n: u32, order: u32, list: &[u32], store: &mut [u32]) {
     copy(&opened(n, order, list), store);
 }
 
-// The number of opening a store; its words afterwards go into a slice that is long enough.
-pub fn expect_opened(n: u32, order: u32, list: &[u32], store: &[u32], words: &mut [u32]) -> u32 {
-    let fault = open_fault(n, order, list, store.len());
+// The number of opening a store within limits; its words afterwards go into a slice that is long enough.
+pub fn expect_opened(
+    limits: Limits,
+    n: u32,
+    order: u32,
+    list: &[u32],
+    store: &[u32],
+    words: &mut [u32],
+) -> u32 {
+    let fault = open_fault(limits, n, order, list, store.len());
     if fault == 0 {
         write_opened(n, order, list, words);
     } else {

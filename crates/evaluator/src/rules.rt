@@ -7,6 +7,7 @@ use crate::layout::left_of;
 use crate::layout::questions;
 use crate::layout::right_of;
 use crate::layout::steps;
+use crate::limits::Limits;
 use crate::lists::bad_term;
 
 // Whether an equation is a question's, perhaps with the same steps more on both sides. One side of a question has no steps.
@@ -41,9 +42,9 @@ fn is_settled(a: u32, b: u32) -> bool {
     (field(a) == field(b)) | below_zero(a, b) | below_zero(b, a)
 }
 
-fn equation_fault(store: &[u32], a: u32, b: u32) -> u32 {
+fn equation_fault(limits: Limits, store: &[u32], a: u32, b: u32) -> u32 {
     let n = fields(store);
-    let fault = refuse(0, bad_term(n, a) | bad_term(n, b), 35);
+    let fault = refuse(0, bad_term(limits, n, a) | bad_term(limits, n, b), 35);
     refuse(fault, !(is_settled(a, b) | on_list(store, a, b)), 36)
 }
 
@@ -59,24 +60,24 @@ fn bad_row(r: u32, kind: u32, a: u32, b: u32, c: u32) -> bool {
     }
 }
 
-fn row_fault(store: &[u32], table: &[u32], r: u32) -> u32 {
+fn row_fault(limits: Limits, store: &[u32], table: &[u32], r: u32) -> u32 {
     let kind = cell(table, r, 0);
     let a = cell(table, r, 1);
     let b = cell(table, r, 2);
     let fault = refuse(0, bad_row(r, kind, a, b, cell(table, r, 3)), 34);
-    refuse(fault, kind == 2, equation_fault(store, a, b))
+    refuse(fault, kind == 2, equation_fault(limits, store, a, b))
 }
 
 // The first refusal among the rows.
-fn rows_fault(store: &[u32], table: &[u32], rows: u32) -> u32 {
+fn rows_fault(limits: Limits, store: &[u32], table: &[u32], rows: u32) -> u32 {
     let mut fault = 0;
     for r in 0..rows {
-        fault = refuse(fault, true, row_fault(store, table, r));
+        fault = refuse(fault, true, row_fault(limits, store, table, r));
     }
     fault
 }
 
-pub fn table_fault(store: &[u32], table: &[u32]) -> u32 {
+pub fn table_fault(limits: Limits, store: &[u32], table: &[u32]) -> u32 {
     let length = table.len();
     let mut fault = refuse(0, length == 0, 31);
     fault = refuse(fault, length % 4 != 0, 32);
@@ -84,6 +85,6 @@ pub fn table_fault(store: &[u32], table: &[u32]) -> u32 {
     refuse(
         fault,
         true,
-        rows_fault(store, table, (length / 4 % 257) as u32),
+        rows_fault(limits, store, table, (length / 4 % 257) as u32),
     )
 }

@@ -1,8 +1,9 @@
-// Whether words are a sound store, part by part as documents 01 and 02 say it, and whether they have a handle.
+// Whether words are a sound store within limits, part by part as documents 01 and 02 say it, and whether they have a handle.
 use crate::answer::refuse;
 use crate::entries::asked_by;
 use crate::entries::entry_place;
 use crate::entries::find_entry;
+use crate::entries::fits;
 use crate::entries::has_room;
 use crate::entries::no_of;
 use crate::entries::question_of;
@@ -12,18 +13,20 @@ use crate::layout::fields;
 use crate::layout::order;
 use crate::layout::questions;
 use crate::layout::used;
+use crate::limits::Limits;
+use crate::limits::institute_limits;
 use crate::lists::bad_order;
 use crate::lists::questions_fault;
 use crate::words::all_are;
 use crate::words::part;
 
 // The number of fields, the number of questions, the order, the length, and the list.
-fn heading_sound(store: &[u32]) -> bool {
+fn heading_sound(limits: Limits, store: &[u32]) -> bool {
     let start = entry_place(store, 0);
     let n = fields(store);
-    let sizes = (n <= 16) & (questions(store) <= 20) & (start <= store.len());
+    let sizes = (n <= limits.fields) & (questions(store) <= limits.questions) & fits(store, 0);
     let list = part(store, HEADING, start);
-    sizes & !bad_order(order(store)) & (questions_fault(n, order(store), list) == 0)
+    sizes & !bad_order(order(store)) & (questions_fault(limits, n, order(store), list) == 0)
 }
 
 // A handle of an entry is smaller than its own, and the entry that it names has a larger question number.
@@ -50,9 +53,9 @@ fn entries_sound(store: &[u32]) -> bool {
     sound
 }
 
-pub fn is_sound(store: &[u32]) -> bool {
+pub fn is_sound(limits: Limits, store: &[u32]) -> bool {
     let entries = used(store);
-    if heading_sound(store) & has_room(store, entries) {
+    if heading_sound(limits, store) & has_room(limits, store, entries) {
         let unused = part(store, entry_place(store, entries), store.len());
         return entries_sound(store) & all_are(unused, 0);
     }
@@ -63,8 +66,8 @@ pub fn has_handle(store: &[u32], handle: u32) -> bool {
     (handle as u64) < used(store) as u64 + 2
 }
 
-// The refusal of a store and one of its handles.
+// The refusal of a store and one of its handles. Only the institute's operations take handles.
 pub fn handle_fault(store: &[u32], handle: u32) -> u32 {
-    let fault = refuse(0, !is_sound(store), 22);
+    let fault = refuse(0, !is_sound(institute_limits(), store), 22);
     refuse(fault, !has_handle(store, handle), 41)
 }

@@ -6,6 +6,7 @@ use crate::entries::yes_of;
 use crate::layout::cell;
 use crate::layout::left_of;
 use crate::layout::right_of;
+use crate::limits::MOST_QUESTIONS;
 use crate::words::count_at;
 
 fn wide(count: u16) -> u32
@@ -91,10 +92,10 @@ fn step_down(store: &[u32], handle: u32, sheet: &[u16]) -> u32 {
     no_of(store, handle - 2)
 }
 
-// The meaning of a handle at a sheet. A path asks at most twenty questions.
+// The meaning of a handle at a sheet. A path asks each question at most once.
 pub fn handle_truth(store: &[u32], handle: u32, sheet: &[u16]) -> bool {
     let mut at = handle;
-    for step in 0..20u32 {
+    for step in 0..MOST_QUESTIONS {
         at = step_down(store, at, sheet);
     }
     at == 1

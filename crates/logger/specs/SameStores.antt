@@ -27,7 +27,7 @@ pub record SameStores (s s′ : List ℕ) : Type 0 where
 abbrev pub AcceptedAlike : (limits limits′ : Limits) → (b b′ : Books) → List Call → Type 0
 AcceptedAlike limits limits′ b b′ calls = map was-accepted (answers-to limits b calls) ≡ map was-accepted (answers-to limits′ b′ calls)
 
--- "give the same used entries and handles": the results at each place of the list, and the books after the list
+-- "give the same used entries and handles": the results at each place of the list, and the stores after it
 pub record SameRuns (limits limits′ : Limits) (b b′ : Books) (calls : List Call) : Type 0 where
   pub same-results : map built-result (answers-to limits b calls) ≡ map built-result (answers-to limits′ b′ calls)
   pub same-stores : SameStores (run limits b calls .words) (run limits′ b′ calls .words)

@@ -1,6 +1,5 @@
 // The calls that leave the store as it is: each is made, and its answer printed and compared with the evaluator's. What simplify and write back
 // leave is compared by the generated calls of `try_rules`.
-use crate::comparing::knows;
 use crate::comparing::remark;
 use crate::comparing::same_answer;
 use crate::lines::Numbers;
@@ -16,6 +15,7 @@ use evaluator::expect_read;
 use evaluator::expect_verdict;
 use evaluator::first_counts;
 use evaluator::is_example;
+use evaluator::knows;
 use sheet::sheet_example;
 use sheet::sheet_read;
 use sheet::sheet_simplify;

@@ -14,16 +14,18 @@ use crate::lines::Numbers;
 use crate::lines::byte_at;
 use crate::lines::find;
 use crate::lines::numbers_of;
+use crate::names::Name;
+use crate::names::name_of;
 use crate::printing::text;
 use evaluator::part;
 
 // A call that leaves the store as it is, by the first letter of its name.
-fn ask(lent: Lent, name: u8, numbers: Numbers) {
+fn ask(lent: Lent, letter: u8, numbers: Numbers) {
     let lent_words = lent.words;
     let store = part(&lent_words, 0, lent.length);
     let words = numbers.words;
     let handle = words[0];
-    match name {
+    match letter {
         b'v' => verdict(store, handle),
         b'r' => read(store, numbers),
         b'e' => example(store, handle, lent.out),
@@ -34,10 +36,11 @@ fn ask(lent: Lent, name: u8, numbers: Numbers) {
 }
 
 // Any call.
-fn call(lent: Lent, name: u8, numbers: Numbers) -> Lent {
-    match name {
+fn call(lent: Lent, name: Name, numbers: Numbers) -> Lent {
+    let letter = name.letter;
+    match letter {
         b'o' | b'b' | b'n' | b'j' | b'c' => return change(lent, name, numbers),
-        _ => ask(lent, name, numbers),
+        _ => ask(lent, letter, numbers),
     }
     lent
 }
@@ -45,7 +48,7 @@ fn call(lent: Lent, name: u8, numbers: Numbers) -> Lent {
 // A line with a call: its case goes up to the first space.
 fn run_call(lent: Lent, line: &[u8]) -> Lent {
     let space = find(line, 0, b' ');
-    let name = byte_at(line, space + 1);
+    let name = name_of(line, space);
     text(line);
     let after = call(lent, name, numbers_of(&line[space..line.len()]));
     text(b"\n");

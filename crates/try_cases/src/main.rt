@@ -7,6 +7,7 @@ mod comparing;
 mod diagrams;
 mod lending;
 mod lines;
+mod names;
 mod printing;
 
 use libc::STDIN_FILENO;

@@ -2,31 +2,25 @@
 use crate::chance::Thrown;
 use crate::chance::throw;
 use crate::chance::throw_from;
+use crate::comparing::try_on;
 use crate::ledger::enter;
 use crate::rules::Table;
 use crate::rules::throw_table;
 use crate::run::Run;
-use crate::run::agree;
 use crate::run::count;
 use crate::run::expect_answer;
 use evaluator::Row;
 use evaluator::accepted;
 use evaluator::call_truth;
 use evaluator::differences;
-use evaluator::expect_added;
 use evaluator::fields;
 use evaluator::first_counts;
 use evaluator::part;
 use evaluator::row_of;
-use evaluator::same_words;
 use evaluator::sheet_of;
 use evaluator::sheets_of;
 use evaluator::used;
 use sheet::Answer;
-use sheet::sheet_build;
-use sheet::sheet_choose;
-use sheet::sheet_join;
-use sheet::sheet_negate;
 use sheet::sheet_read;
 
 // Any handle of the store, now and then one that it has not.
@@ -62,16 +56,6 @@ fn throw_next(seed: u64, store: &[u32]) -> Next {
         table: table,
         call: row_of(kind.number + 1, a.number, b.number, c.number),
         seed: c.seed,
-    }
-}
-
-pub fn perform(store: &mut [u32], call: Row, table: &[u32]) -> Answer {
-    let kind = call.kind;
-    match kind {
-        2 => sheet_build(store, table),
-        3 => sheet_negate(store, call.a),
-        4 => sheet_join(store, call.a, call.b),
-        _ => sheet_choose(store, call.a, call.b, call.c),
     }
 }
 
@@ -115,13 +99,9 @@ fn compare_accepted(run: Run, store: &[u32], call: Row, table: &[u32], found: An
     }
 }
 
-fn try_call(mut run: Run, store: &mut [u32], call: Row, table: &[u32]) -> Run {
-    let mut words = [0u32; 1024];
-    let expected = expect_added(store, call, table, &mut words);
-    let found = perform(store, call, table);
-    run = expect_answer(run, found, expected);
-    run = agree(run, same_words(store, &words));
-    compare_accepted(run, store, call, table, found)
+fn try_call(run: Run, store: &mut [u32], call: Row, table: &[u32]) -> Run {
+    let tried = try_on(run, false, store, call, table);
+    compare_accepted(tried.run, store, call, table, tried.answer)
 }
 
 // One generated call.

@@ -11,6 +11,8 @@ use crate::run::count_store;
 use evaluator::ORDER_PLACE;
 use evaluator::copy;
 use evaluator::covers;
+use evaluator::fields;
+use evaluator::institute_limits;
 use evaluator::is_sound;
 use evaluator::order;
 use evaluator::part;
@@ -31,10 +33,11 @@ fn throw_word(seed: u64) -> Thrown {
     }
 }
 
+// Sheets are asked for up to three fields.
 fn ask_changed(run: Run, store: &[u32]) -> Run {
-    if !is_sound(store) {
+    if !is_sound(institute_limits(), store) {
         refuse_all(run, store)
-    } else if covers(store) {
+    } else if covers(store) & (fields(store) <= 3) {
         ask_handles(run, store)
     } else {
         run
@@ -67,7 +70,7 @@ pub fn try_changed(mut run: Run, store: &[u32]) -> Run {
 // Whether the list of a sound store is in the store's order only: with the other one it is no sound store.
 fn in_one_order(store: &[u32]) -> bool {
     let words = changed(store, ORDER_PLACE, other_order(order(store)));
-    !is_sound(part(&words, 0, store.len()))
+    !is_sound(institute_limits(), part(&words, 0, store.len()))
 }
 
 // The other order, and a word that is no order.

@@ -1,17 +1,35 @@
-// Hand-made sound stores over the questions 1 = 0 to 1 = S19(0), with many entries.
+// Hand-made sound stores over the questions n = 0, n = S(0) and so on, n being the last field, with many entries.
 ghost use Prim.Native.Nat.{_<_};
 use evaluator::HEADING;
 use evaluator::asked_by;
+use evaluator::part;
 use evaluator::put;
 use evaluator::put_entry;
+use evaluator::questions;
 use evaluator::write_opened;
+
+// What a store is for: its fields, its questions, at least four, and its order.
+pub struct Form {
+    pub n: u32,
+    pub questions: u32,
+    pub order: u32,
+}
+
+// Of one field, with as many questions as the institute takes.
+pub fn widest(order: u32) -> Form {
+    Form {
+        n: 1,
+        questions: 20,
+        order: order,
+    }
+}
 
 // The words of a store with 20 questions and room for 4,096 entries, and twenty more, so that the limit and not the length binds.
 pub const FULL_WORDS: usize = HEADING + 40 + 3 * 4096 + 20;
 
-// The questions 1 = 0, 1 = S(0) and so on, 20 of them.
-fn steps_list() -> [u32; 40] {
-    let mut list = [1u32; 40];
+// The questions n = 0, n = S(0) and so on, 20 of them.
+fn steps_list(n: u32) -> [u32; 40] {
+    let mut list = [n; 40];
     for i in 0..20u32 {
         list[2 * (i as usize) + 1] = 32 * i;
     }
@@ -19,8 +37,10 @@ fn steps_list() -> [u32; 40] {
 }
 
 // The heading and the list, which is in both orders, with so many entries used.
-fn write_heading(store: &mut [u32], order: u32, used: u32) {
-    write_opened(1, order, &steps_list(), store);
+fn write_heading(store: &mut [u32], form: Form, used: u32) {
+    let list = steps_list(form.n);
+    let length = 2 * (form.questions as usize);
+    write_opened(form.n, form.order, part(&list, 0, length), store);
     put(store, 2, used);
 }
 
@@ -36,35 +56,44 @@ fn pair(question: u32, j: u32, others: u32) -> Entry
     Entry(question, yes, no % 4096 + (no >= yes) as u32 % 2)
 }
 
-// The entries in turn: the pairs of the two leaves at question 20, those of the four handles then there at question 19, of sixteen at question
-// 18, of 256 at question 17; then the two of the leaves at question 1, of which the first is the 4,096th entry.
-fn entry_at(entry: u32) -> Entry {
+// The question so many before the last.
+fn before(last: u32, count: u32) -> u32 {
+    if count < last { last - count } else { 0 }
+}
+
+// The entries in turn: the pairs of the two leaves at the last question, those of the four handles then there at the question before it, then of
+// sixteen, then of 256; then the two of the leaves at question 1, of which the first is the 4,096th entry.
+fn entry_at(last: u32, entry: u32) -> Entry {
     if entry < 2 {
-        return pair(20, entry, 1);
+        return pair(last, entry, 1);
     }
     if entry < 14 {
-        return pair(19, entry - 2, 3);
+        return pair(before(last, 1), entry - 2, 3);
     }
     if entry < 254 {
-        return pair(18, entry - 14, 15);
+        return pair(before(last, 2), entry - 14, 15);
     }
     if entry < 4095 {
-        return pair(17, entry - 254, 255);
+        return pair(before(last, 3), entry - 254, 255);
     }
     pair(1, 4096 - entry % 4097, 1)
 }
 
+fn write_entry(store: &mut [u32], i: u32) {
+    let entry = entry_at(questions(store), i);
+    put_entry(store, i, entry.0, entry.1, entry.2);
+}
+
 fn write_entries(store: &mut [u32], entries: u32) {
     for i in 0..entries {
-        let entry = entry_at(i);
-        put_entry(store, i, entry.0, entry.1, entry.2);
+        write_entry(store, i);
     }
 }
 
-// A store of an order with so many of these entries.
-pub fn filled(order: u32, entries: u32) -> [u32; FULL_WORDS] {
+// A store with so many of these entries.
+pub fn filled(form: Form, entries: u32) -> [u32; FULL_WORDS] {
     let mut store = [0u32; FULL_WORDS];
-    write_heading(&mut store, order, entries);
+    write_heading(&mut store, form, entries);
     write_entries(&mut store, entries);
     store
 }
@@ -93,7 +122,7 @@ const TREE_WORDS: usize = HEADING + 40 + 3 * 129;
 // handle 129 is over the root and never.
 pub fn tree(order: u32) -> [u32; TREE_WORDS] {
     let mut store = [0u32; TREE_WORDS];
-    write_heading(&mut store, order, 128);
+    write_heading(&mut store, widest(order), 128);
     write_entries(&mut store, 71);
     write_tree(&mut store);
     write_over(&mut store, 127, 128, 0);

@@ -1,19 +1,21 @@
-// Words that are no store: every call that takes a store answers 22 and leaves the words as they are.
+// Words that are no store: every call that takes a store answers 22 and leaves the words as they are, the logger's build as well.
 use crate::asking::ask_example;
 use crate::asking::ask_read;
 use crate::asking::ask_verdict;
-use crate::calls::perform;
+use crate::comparing::perform;
 use crate::filling::FULL_WORDS;
 use crate::run::Run;
 use crate::run::agree;
 use crate::run::expect_answer;
 use crate::writing::ask_written;
 use evaluator::copy;
+use evaluator::institute_limits;
 use evaluator::is_sound;
 use evaluator::part;
 use evaluator::refused;
 use evaluator::row_of;
 use evaluator::same_words;
+use sheet::sheet_logger_build;
 
 // The words of a sound store to break.
 const SIZE: usize = 26;
@@ -139,12 +141,17 @@ fn refuse_call(run: Run, store: &mut [u32], kind: u32) -> Run {
     expect_answer(run, found, refused(22))
 }
 
-// The four calls that add, on a copy of the words, of which none changes.
+fn refuse_logged(run: Run, store: &mut [u32]) -> Run {
+    expect_answer(run, sheet_logger_build(store, &[7, 7, 7]), refused(22))
+}
+
+// The calls that add, on a copy of the words, of which none changes.
 fn refuse_calls(mut run: Run, store: &[u32], words: &mut [u32]) -> Run {
     copy(store, words);
     for kind in 2..6u32 {
         run = refuse_call(run, words, kind);
     }
+    run = refuse_logged(run, words);
     agree(run, same_words(store, words))
 }
 
@@ -165,7 +172,7 @@ pub fn refuse_all(mut run: Run, store: &[u32]) -> Run {
 pub fn try_all_broken(mut run: Run) -> Run {
     for way in 0..WAYS {
         let store = broken(way);
-        run = agree(run, !is_sound(&store));
+        run = agree(run, !is_sound(institute_limits(), &store));
         run = refuse_all(run, &store);
     }
     run

@@ -1,7 +1,9 @@
 // The limits of a store: 4,096 entries and one more, 127 and 128 entries written back. Those of lists and tables are document 01's case 14.
 ghost use Prim.Native.Nat.{_≤_};
+use crate::filling::Form;
 use crate::filling::filled;
 use crate::filling::tree;
+use crate::filling::widest;
 use crate::hostile::refuse_all;
 use crate::run::Run;
 use crate::run::agree;
@@ -10,6 +12,7 @@ use crate::writing::ask_written;
 use crate::writing::write_back;
 use evaluator::Answer;
 use evaluator::accepted;
+use evaluator::institute_limits;
 use evaluator::is_sound;
 use evaluator::refused;
 use evaluator::same_words;
@@ -36,25 +39,25 @@ fn add_to_full(mut run: Run, store: &mut [u32]) -> Run {
 }
 
 // 4,096 entries: only the last of them is added.
-fn try_full(mut run: Run, order: u32, store: &mut [u32]) -> Run {
+fn try_full(mut run: Run, form: Form, store: &mut [u32]) -> Run {
     run = fill_last(run, store);
     run = add_to_full(run, store);
     run = agree(run, used(store) == 4096);
-    agree(run, same_words(store, &filled(order, 4096)))
+    agree(run, same_words(store, &filled(form, 4096)))
 }
 
 // An entry more makes no sound store, however long it is.
-fn try_overfull(mut run: Run, order: u32) -> Run {
-    let store = filled(order, 4097);
-    run = agree(run, !is_sound(&store));
+fn try_overfull(mut run: Run, form: Form) -> Run {
+    let store = filled(form, 4097);
+    run = agree(run, !is_sound(institute_limits(), &store));
     refuse_all(run, &store)
 }
 
-fn try_entries(mut run: Run, order: u32) -> Run {
-    let mut store = filled(order, 4095);
-    run = agree(run, is_sound(&store));
-    run = try_full(run, order, &mut store);
-    try_overfull(run, order)
+fn try_entries(mut run: Run, form: Form) -> Run {
+    let mut store = filled(form, 4095);
+    run = agree(run, is_sound(institute_limits(), &store));
+    run = try_full(run, form, &mut store);
+    try_overfull(run, form)
 }
 
 // A handle written back into so many words, and the rows that are to come out.
@@ -70,7 +73,7 @@ fn write_expecting(mut run: Run, store: &[u32], handle: u32, length: usize, rows
 fn try_written(mut run: Run, order: u32) -> Run {
     let array = tree(order);
     let store: &[u32] = &array;
-    run = agree(run, is_sound(store));
+    run = agree(run, is_sound(institute_limits(), store));
     run = write_expecting(run, store, 128, 1024, 256);
     run = write_expecting(run, store, 128, 1023, 0);
     write_expecting(run, store, 129, 1024, 0)
@@ -79,7 +82,7 @@ fn try_written(mut run: Run, order: u32) -> Run {
 // In both orders.
 pub fn try_limits(mut run: Run) -> Run {
     for order in 0..2u32 {
-        run = try_entries(run, order);
+        run = try_entries(run, widest(order));
         run = try_written(run, order);
     }
     run

@@ -1,16 +1,21 @@
 // Runs generated lists of questions, rules and calls, stores that are not sound, and the limits, against a plain evaluator.
 mod asking;
+mod both;
 mod calls;
 mod chance;
 mod changed;
+mod comparing;
 mod filling;
 mod hostile;
 mod ledger;
 mod limits;
 mod lists;
+mod logger_limits;
+mod logging;
 mod opening;
 mod orders;
 mod printing;
+mod raising;
 mod rounds;
 mod rules;
 mod run;
@@ -21,8 +26,11 @@ mod writing;
 use crate::hostile::try_all_broken;
 use crate::hostile::try_all_cut;
 use crate::limits::try_limits;
+use crate::logger_limits::try_logger_limits;
+use crate::logging::logger_rounds;
 use crate::printing::print_part;
 use crate::printing::print_refusals;
+use crate::printing::print_sides;
 use crate::printing::print_stores;
 use crate::rounds::list_rounds;
 use crate::rounds::store_rounds;
@@ -44,6 +52,14 @@ fn run_made(mut run: Run) -> Run {
     print_part(try_limits(run), b"limits")
 }
 
+// The logger's open and build.
+fn run_logger(mut run: Run) -> Run {
+    let both = logger_rounds(run);
+    run = print_part(both.run, b"logger");
+    print_sides(both);
+    print_part(try_logger_limits(run), b"limits of the logger")
+}
+
 fn main() {
-    print_refusals(run_made(run_generated(begun())));
+    print_refusals(run_logger(run_made(run_generated(begun()))));
 }

@@ -1,4 +1,5 @@
 // What a run came to: the comparisons of each part, the generated stores, and at the end the refusals that were met.
+use crate::both::Both;
 use crate::run::Run;
 use libc::STDOUT_FILENO;
 
@@ -40,16 +41,52 @@ pub fn print_stores(run: Run) -> Run {
     run
 }
 
-fn print_refusal(number: u32, times: u32) {
+fn print_refusal(text: &[u8], number: u32, times: u32) {
     if times > 0 {
-        print_numbers(b"refusal ", number as u64, b": ", times as u64);
+        print_numbers(text, number as u64, b": ", times as u64);
     }
 }
 
 // A line for each number that was met, but 0.
+fn print_met(text: &[u8], met: [u32; 64]) {
+    for number in 1..64u32 {
+        print_refusal(text, number, met[number as usize]);
+    }
+}
+
 pub fn print_refusals(run: Run) {
     let met = run.met;
-    for number in 1..64u32 {
-        print_refusal(number, met[number as usize]);
-    }
+    print_met(b"refusal ", met);
+}
+
+// The refusals of one side, and the logger's for its limit and not for its store's length.
+fn print_alone(both: Both) {
+    let institute = both.institute_alone;
+    let logger = both.logger_alone;
+    print_met(b"by the institute alone, refusal ", institute);
+    print_met(b"by the logger alone, refusal ", logger);
+    print_numbers(
+        b"by the logger alone, refusal 51 above ",
+        200,
+        b" entries: ",
+        both.full as u64,
+    );
+}
+
+fn print_both(what: &[u8], accepted: u32, refused: u32) {
+    io::write_all(STDOUT_FILENO, what);
+    print_numbers(
+        b" accepted by both: ",
+        accepted as u64,
+        b", refused by both: ",
+        refused as u64,
+    );
+}
+
+// The same openings and builds at the institute and on the logger.
+pub fn print_sides(both: Both) {
+    let alike = both.alike_calls;
+    print_both(b"openings", alike[0], alike[1]);
+    print_both(b"builds", alike[2], alike[3]);
+    print_alone(both);
 }

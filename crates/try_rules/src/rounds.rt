@@ -16,6 +16,7 @@ use crate::run::agree;
 use crate::spoiling::spoil;
 use crate::writing::write_handles;
 use evaluator::HEADING;
+use evaluator::institute_limits;
 use evaluator::is_sound;
 
 // A list, good or spoiled once or twice, and a store of any length.
@@ -55,7 +56,7 @@ fn throw_length(list: List) -> Thrown
 // What is asked of a store after its calls, and once more when a word is changed, also the one that names its order.
 fn ask_store(mut run: Run, store: &[u32]) -> Run {
     run = compare_pairs(run, store);
-    run = agree(run, is_sound(store));
+    run = agree(run, is_sound(institute_limits(), store));
     run = ask_handles(run, store);
     run = write_handles(run, store);
     run = try_changed(run, store);

@@ -186,14 +186,36 @@ fn throw_row(seed: u64, store: &[u32], r: u32) -> Line {
     }
 }
 
-fn throw_rows(seed: u64, store: &[u32], rows: u32) -> Table {
+// Eight questions of the list, and after them choices among all rows before: such a rule has many entries.
+fn throw_rich_row(seed: u64, store: &[u32], r: u32) -> Line {
+    if r < 8 {
+        return throw_listed(seed, store);
+    }
+    let a = throw(seed, r);
+    let b = throw(a.seed, r);
+    let c = throw(b.seed, r);
+    Line {
+        row: row_of(5, a.number, b.number, c.number),
+        seed: c.seed,
+    }
+}
+
+fn throw_any_row(seed: u64, store: &[u32], r: u32, rich: bool) -> Line {
+    if rich {
+        throw_rich_row(seed, store, r)
+    } else {
+        throw_row(seed, store, r)
+    }
+}
+
+fn throw_rows(seed: u64, store: &[u32], rows: u32, rich: bool) -> Table {
     let mut table = Table {
         words: [0; 64],
         length: 0,
         seed: seed,
     };
     for r in 0..rows {
-        let line = throw_row(table.seed, store, r);
+        let line = throw_any_row(table.seed, store, r, rich);
         table = put_row(table, r, line.row);
         table.seed = line.seed;
     }
@@ -203,7 +225,7 @@ fn throw_rows(seed: u64, store: &[u32], rows: u32) -> Table {
 // A table; now and then of no words, or of a number that is no multiple of four.
 pub fn throw_table(seed: u64, store: &[u32]) -> Table {
     let rows = throw(seed, 14);
-    let mut table = throw_rows(rows.seed, store, rows.number + 1);
+    let mut table = throw_rows(rows.seed, store, rows.number + 1, false);
     let cut = throw(table.seed, 60);
     let way = cut.number;
     table.seed = cut.seed;
@@ -213,5 +235,12 @@ pub fn throw_table(seed: u64, store: &[u32]) -> Table {
         2 => 4 * rows.number + 3,
         _ => 4 * rows.number + 4,
     };
+    table
+}
+
+// A table of sixteen rows that is refused only where a term has too many steps.
+pub fn throw_rich_table(seed: u64, store: &[u32]) -> Table {
+    let mut table = throw_rows(seed, store, 16, true);
+    table.length = 64;
     table
 }

@@ -9,6 +9,7 @@ use crate::run::expect_number;
 use evaluator::MOST_STEPS;
 use evaluator::bad_term;
 use evaluator::holds;
+use evaluator::institute_limits;
 use evaluator::is_question;
 use sheet::sheet_simplify;
 use terms::SimplifyAnswer;
@@ -132,10 +133,16 @@ fn compare_sheets(mut run: Run, left: u32, right: u32, a: SimplifyAnswer) -> Run
     run
 }
 
+// The fields of an equation without a store are the institute's.
+fn beyond(term: u32) -> bool {
+    let limits = institute_limits();
+    bad_term(limits, limits.fields, term)
+}
+
 fn compare_equation(mut run: Run, left: u32, right: u32) -> Run {
     let a = sheet_simplify(left, right);
     run = agree(run, is_formed(a));
-    if bad_term(16, left) | bad_term(16, right) {
+    if beyond(left) | beyond(right) {
         expect_number(run, a.number, 35)
     } else {
         let sheet = meeting(run.seed, left, right);

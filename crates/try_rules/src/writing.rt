@@ -12,6 +12,7 @@ use evaluator::copy;
 use evaluator::differences;
 use evaluator::expect_written;
 use evaluator::fields;
+use evaluator::institute_limits;
 use evaluator::part;
 use evaluator::row_of;
 use evaluator::same_words;
@@ -93,7 +94,7 @@ fn build_copy(mut run: Run, store: &[u32], handle: u32, table: &[u32], words: &m
 fn build_again(mut run: Run, store: &[u32], handle: u32, table: &[u32]) -> Run {
     let mut words = [0u32; 512];
     let end = store.len();
-    run = agree(run, table_fault(store, table) == 0);
+    run = agree(run, table_fault(institute_limits(), store, table) == 0);
     copy(store, &mut words);
     if end > 512 {
         return run;

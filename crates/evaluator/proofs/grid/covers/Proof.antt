@@ -5,16 +5,13 @@ use Rattle.evaluator.proofs.grid.covers.Statement.{statement}
 use Rattle.evaluator.proofs.grid.covers.Tie as tie
 
 abbrev Inv-loop : tie.InvT-loop
-Inv-loop store n most count within₀ i₀ within i = i ≤ count
+Inv-loop store n count all₀ i₀ all i = i ≤ count
 
 abbrev μ-loop : tie.MeasureT-loop
-μ-loop store n most count within₀ i₀ within i = count - i
+μ-loop store n count all₀ i₀ all i = count - i
 
 fields-requires : tie.Need-fields-requires Inv-loop μ-loop
 fields-requires c κs = search needs
-
-most-steps-requires : tie.Need-most-steps-requires Inv-loop μ-loop
-most-steps-requires c κs = search needs
 
 questions-requires : tie.Need-questions-requires Inv-loop μ-loop
 questions-requires c κs = search needs
@@ -22,11 +19,11 @@ questions-requires c κs = search needs
 loop-holds : tie.Need-loop-holds Inv-loop μ-loop
 loop-holds c = search needs
 
-add-beyond : tie.Need-add-beyond Inv-loop μ-loop
-add-beyond c = search needs
+add-within : tie.Need-add-within Inv-loop μ-loop
+add-within c = search needs
 
-beyond-requires : tie.Need-beyond-requires Inv-loop μ-loop
-beyond-requires c κs = search needs
+within-requires : tie.Need-within-requires Inv-loop μ-loop
+within-requires c κs = search needs
 
 add-i : tie.Need-add-i Inv-loop μ-loop
 add-i c = search needs
@@ -47,11 +44,10 @@ covers-spec =
     Inv-loop
     μ-loop
     fields-requires
-    most-steps-requires
     questions-requires
     loop-holds
-    add-beyond
-    beyond-requires
+    add-within
+    within-requires
     add-i
     loop-less
     loop-again

@@ -6,10 +6,10 @@ use Rattle.evaluator.proofs.lists.questions_fault.Statement.{statement}
 use Rattle.evaluator.proofs.lists.questions_fault.Tie as tie
 
 abbrev Inv-loop : tie.InvT-loop
-Inv-loop n order list fault₀ before₀ i₀ i-end fault before i = (i ≤ i-end) × (i-end ≤ length list)
+Inv-loop limits n order list fault₀ before₀ i₀ i-end fault before i = (i ≤ i-end) × (i-end ≤ length list)
 
 abbrev μ-loop : tie.MeasureT-loop
-μ-loop n order list fault₀ before₀ i₀ i-end fault before i = i-end - i
+μ-loop limits n order list fault₀ before₀ i₀ i-end fault before i = i-end - i
 
 loop-holds : tie.Need-loop-holds Inv-loop μ-loop
 loop-holds c = search needs

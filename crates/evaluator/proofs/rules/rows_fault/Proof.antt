@@ -5,10 +5,10 @@ use Rattle.evaluator.proofs.rules.rows_fault.Statement.{statement}
 use Rattle.evaluator.proofs.rules.rows_fault.Tie as tie
 
 abbrev Inv-loop : tie.InvT-loop
-Inv-loop store table rows fault₀ r₀ fault r = r ≤ rows
+Inv-loop limits store table rows fault₀ r₀ fault r = r ≤ rows
 
 abbrev μ-loop : tie.MeasureT-loop
-μ-loop store table rows fault₀ r₀ fault r = rows - r
+μ-loop limits store table rows fault₀ r₀ fault r = rows - r
 
 loop-holds : tie.Need-loop-holds Inv-loop μ-loop
 loop-holds c = search needs

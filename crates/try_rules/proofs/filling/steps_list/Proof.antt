@@ -5,10 +5,10 @@ use Rattle.try_rules.proofs.filling.steps_list.Statement.{statement}
 use Rattle.try_rules.proofs.filling.steps_list.Tie as tie
 
 abbrev Inv-loop : tie.InvT-loop
-Inv-loop list₀ i₀ list i = i ≤ 20
+Inv-loop n list₀ i₀ list i = i ≤ 20
 
 abbrev μ-loop : tie.MeasureT-loop
-μ-loop list₀ i₀ list i = 20 - i
+μ-loop n list₀ i₀ list i = 20 - i
 
 loop-holds : tie.Need-loop-holds Inv-loop μ-loop
 loop-holds c = search needs

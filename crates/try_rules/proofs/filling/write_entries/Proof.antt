@@ -15,11 +15,8 @@ abbrev μ-loop : tie.MeasureT-loop
 loop-holds : tie.Need-loop-holds Inv-loop μ-loop
 loop-holds c = search needs
 
-entry-at-requires : tie.Need-entry-at-requires Inv-loop μ-loop
-entry-at-requires c κs = search needs
-
-put-entry-requires : tie.Need-put-entry-requires Inv-loop μ-loop
-put-entry-requires c κs = search needs
+write-entry-requires : tie.Need-write-entry-requires Inv-loop μ-loop
+write-entry-requires c κs = search needs
 
 add-i : tie.Need-add-i Inv-loop μ-loop
 add-i c = search needs
@@ -43,8 +40,7 @@ write-entries-spec =
     Inv-loop
     μ-loop
     loop-holds
-    entry-at-requires
-    put-entry-requires
+    write-entry-requires
     add-i
     loop-less
     loop-again

@@ -30,6 +30,9 @@ loop-less c = search needs
 loop-again : tie.Need-loop-again Inv-loop μ-loop
 loop-again c = search needs
 
+refuse-logged-requires : tie.Need-refuse-logged-requires Inv-loop μ-loop
+refuse-logged-requires c κs = search needs
+
 same-words-requires : tie.Need-same-words-requires Inv-loop μ-loop
 same-words-requires c κs = search needs
 
@@ -54,6 +57,7 @@ refuse-calls-spec =
     add-kind
     loop-less
     loop-again
+    refuse-logged-requires
     same-words-requires
     agree-requires
     same-length

@@ -16,6 +16,9 @@ loop-holds c = search needs
 broken-requires : tie.Need-broken-requires Inv-loop μ-loop
 broken-requires c κs = search needs
 
+institute-limits-requires : tie.Need-institute-limits-requires Inv-loop μ-loop
+institute-limits-requires c κs = search needs
+
 slice-aggregate-is-sound : tie.Need-slice-aggregate-is-sound Inv-loop μ-loop
 slice-aggregate-is-sound c = search needs
 
@@ -51,6 +54,7 @@ try-all-broken-spec =
     μ-loop
     loop-holds
     broken-requires
+    institute-limits-requires
     slice-aggregate-is-sound
     is-sound-requires
     agree-requires

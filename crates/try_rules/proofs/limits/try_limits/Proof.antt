@@ -13,6 +13,9 @@ abbrev μ-loop : tie.MeasureT-loop
 loop-holds : tie.Need-loop-holds Inv-loop μ-loop
 loop-holds c = search needs
 
+widest-requires : tie.Need-widest-requires Inv-loop μ-loop
+widest-requires c κs = search needs
+
 try-entries-requires : tie.Need-try-entries-requires Inv-loop μ-loop
 try-entries-requires c κs = search needs
 
@@ -38,6 +41,7 @@ try-limits-spec =
     Inv-loop
     μ-loop
     loop-holds
+    widest-requires
     try-entries-requires
     try-written-requires
     add-order

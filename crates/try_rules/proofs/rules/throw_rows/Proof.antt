@@ -5,16 +5,16 @@ use Rattle.try_rules.proofs.rules.throw_rows.Statement.{statement}
 use Rattle.try_rules.proofs.rules.throw_rows.Tie as tie
 
 abbrev Inv-loop : tie.InvT-loop
-Inv-loop seed store rows table₀ r₀ table r = r ≤ rows
+Inv-loop seed store rows rich table₀ r₀ table r = r ≤ rows
 
 abbrev μ-loop : tie.MeasureT-loop
-μ-loop seed store rows table₀ r₀ table r = rows - r
+μ-loop seed store rows rich table₀ r₀ table r = rows - r
 
 loop-holds : tie.Need-loop-holds Inv-loop μ-loop
 loop-holds c = search needs
 
-throw-row-requires : tie.Need-throw-row-requires Inv-loop μ-loop
-throw-row-requires c κs = search needs
+throw-any-row-requires : tie.Need-throw-any-row-requires Inv-loop μ-loop
+throw-any-row-requires c κs = search needs
 
 put-row-requires : tie.Need-put-row-requires Inv-loop μ-loop
 put-row-requires c κs = search needs
@@ -38,7 +38,7 @@ throw-rows-spec =
     Inv-loop
     μ-loop
     loop-holds
-    throw-row-requires
+    throw-any-row-requires
     put-row-requires
     add-r
     loop-less

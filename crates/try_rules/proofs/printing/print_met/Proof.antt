@@ -1,14 +1,14 @@
--- `print_refusals` is safe and ends: the loop's place stays within its bound.
+-- `print_met` is safe and ends: the loop's place stays within its bound.
 use Prim.Native.Nat.{_-_, _≤_}
 use borrow.Author.Needs.{needs}
-use Rattle.try_rules.proofs.printing.print_refusals.Statement.{statement}
-use Rattle.try_rules.proofs.printing.print_refusals.Tie as tie
+use Rattle.try_rules.proofs.printing.print_met.Statement.{statement}
+use Rattle.try_rules.proofs.printing.print_met.Tie as tie
 
 abbrev Inv-loop : tie.InvT-loop
-Inv-loop met number₀ number = number ≤ 64
+Inv-loop text met number₀ number = number ≤ 64
 
 abbrev μ-loop : tie.MeasureT-loop
-μ-loop met number₀ number = 64 - number
+μ-loop text met number₀ number = 64 - number
 
 loop-holds : tie.Need-loop-holds Inv-loop μ-loop
 loop-holds c = search needs
@@ -37,8 +37,8 @@ loop-again c = search needs
 returns : tie.Need-returns Inv-loop μ-loop
 returns c = search needs
 
-pub print-refusals-spec : {M : Type 1} → statement M
-print-refusals-spec =
+pub print-met-spec : {M : Type 1} → statement M
+print-met-spec =
     tie.close
     (tie.spec
     Inv-loop
