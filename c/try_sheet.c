@@ -603,6 +603,7 @@ static void logger_entries(void)
     uint32_t store[626], before[626];
     filled(store, LENGTH(store), 199);
     answer("xi logger's build, 199 entries", sheet_logger_build(store, LENGTH(store), WORDS(2, 1, 0, 0)), 0, 201);
+    words(store, WORDS(1, 8, 200, 0));
     words(&store[617], WORDS(1, 1, 0, 0, 0, 0, 0, 0, 0));
     filled(store, LENGTH(store), 200);
     filled(before, LENGTH(before), 200);

@@ -18,13 +18,13 @@
 
                                              fields   questions   entries
      sheet_logger_open, sheet_logger_build   6        8           200
-     all other operations                    16       20          4,096
+     all other operations on stores          16       20          4,096
 
-   A logger's store can be given to every other operation: what the logger's open or build accepts, sheet_open or sheet_build would have done
-   just so on the same words. The other way round it is not so: a store with more than 6 fields, 8 questions or 200 used entries is 22 for
-   the logger's build, sound as it may be. More words than 200 entries take are no hindrance. After the same accepted opening, the same builds in
-   the same order by both, nothing else writing, give the same handles and the same used entries, as long as each build is accepted by both or
-   by neither. This is proved.
+   620 words are enough for any store of the logger's, and more are no hindrance. A logger's store can be given to every other operation: what
+   the logger's open or build accepts, sheet_open or sheet_build would have done just so on the same words. The other way round it is not so: a
+   store with more than 6 fields, 8 questions or 200 used entries is 22 for the logger's build, sound as it may be. After the same accepted
+   opening, the same builds in the same order by both, nothing else writing, on stores of any two lengths, give the same handles and the same
+   used entries, as long as each build is accepted by both or by neither. This is proved.
 
    A rule is rows of four words: kind, a, b, c. Rows count from 0; the last row is the rule. Kinds:
      0 never; 1 always; 2 the equation of the term words a and b; 3 not row a; 4 rows a and b; 5 if row a then row b else row c.
@@ -59,8 +59,8 @@
      86  one of the rules of document 000's Definition 28 applies
 
    22 is given, among others, for fewer than 4 words, for a word 3 that is neither 0 nor 1, and for a list that does not ascend in the order
-   that word 3 names; by the logger's build also for a store with more than 6 fields, 8 questions or 200 used entries. The room that 51 speaks of
-   is what the words give, 4,096 entries at most, and 200 at most for the logger.
+   that word 3 names; by the logger's build also for a store with more than 6 fields, 8 questions or 200 used entries. The room that 51
+   speaks of is what the words give, 4,096 entries at most, and 200 at most for the logger.
 
    What C must keep. The functions are proved for whatever words are lent: no content of a store, list, rule, sheet or table, no handle and no
    length makes them read or write outside what was lent. Nothing proves what stands on C's side of a call, so the caller sees to it that

@@ -3,8 +3,8 @@
 use Prim.Native.Nat.{ℕ}
 use mathlib.Core.Path.{_≡_, refl}
 use mathlib.Core.List.{List, [], _∷_, map}
-use Rattle.logger.specs.SameStores.{entry-words, AcceptedAlike}
 use native.Mathlib.Omega.{arith}
+use Rattle.logger.specs.SameStores.{entry-words, AcceptedAlike}
 use Rattle.logger.specs.MixedCalls.{within, run-within}
 use Rattle.logger.specs.SmallerLimits.{Smaller}
 use Rattle.logger.specs.AnswersTo.{answers-to, was-accepted}

@@ -579,9 +579,19 @@ fn damage_heading(random: &mut Random, store: &mut [u32], fault: Fault) {
     let (n, q, used, order) = (store[0], store[1], store[2], store[3]);
     match fault {
         Fault::Fields => store[0] = *random.pick(&[LOGGER.fields + 1, 17, 31, u32::MAX, n / 2]),
-        Fault::Questions => store[1] = *random.pick(&[9, 21, q + 1, q / 2, u32::MAX, 1 << 31, (1 << 31) + 1]),
+        Fault::Questions => {
+            store[1] = *random.pick(&[LOGGER.questions as u32 + 1, 21, q + 1, q / 2, u32::MAX, 1 << 31, (1 << 31) + 1])
+        }
         Fault::Used => {
-            store[2] = *random.pick(&[used + 1, used / 2, 201, 4097, u32::MAX, 1_431_655_766, 2_863_311_531])
+            store[2] = *random.pick(&[
+                used + 1,
+                used / 2,
+                LOGGER.entries as u32 + 1,
+                4097,
+                u32::MAX,
+                1_431_655_766,
+                2_863_311_531,
+            ])
         }
         Fault::UnknownOrder => store[3] = *random.pick(&UNKNOWN_ORDERS),
         _ => store[3] = 1 - order,

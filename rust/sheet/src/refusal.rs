@@ -30,7 +30,7 @@ pub enum Refusal {
     /// 16: a question that isn't strictly above the one before it in the list's order.
     NotAscending = 16,
     /// 18: an order that is neither 0 nor 1. An [`Order`](crate::Order) is always one of them, so only
-    /// [`words::open`](crate::words::open) can give this.
+    /// [`words::open`](crate::words::open) and [`words::logger_open`](crate::words::logger_open) can give this.
     UnknownOrder = 18,
     /// 21: a store shorter than its heading and list.
     StoreTooShort = 21,
@@ -141,7 +141,7 @@ impl fmt::Display for Refusal {
             }
             Refusal::StoreTooShort => "the store has too few words for its heading and its list of questions",
             Refusal::NotSound => {
-                "the words are not a sound store, or they are for the deck logger and have more than 6 fields, 8 questions or 200 entries"
+                "the words are not a sound store, or they are for the deck logger and have more than 6 fields, 8 questions or 200 used entries"
             }
             Refusal::SliceLength => "the sheet does not have one count for each field, or the rule does not fit the words lent for it",
             Refusal::NoRows => "the rule has no rows",

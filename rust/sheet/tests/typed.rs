@@ -264,6 +264,9 @@ fn the_logger_opens_within_its_limits() {
     assert_eq!(opened(2, &pairs()), Err(Refusal::ListTerm));
     assert_eq!(opened(3, &[Field(1).equals(Field(2))]), Err(Refusal::NotSimplified));
     assert_eq!(opened(3, &[pairs()[1], pairs()[0]]), Err(Refusal::NotAscending));
+    // Room for more entries than it can use is not asked for.
+    let largest = LoggerStore::open(3, Order::FieldsFirst, pairs(), usize::MAX).unwrap();
+    assert_eq!((largest.room(), largest.as_store().room()), (200, 200));
 }
 
 #[test]
@@ -287,13 +290,13 @@ fn the_logger_builds_what_a_store_builds() {
 #[test]
 fn a_store_beyond_the_loggers_limits_is_none_of_its_own() {
     let none: [Question; 0] = [];
-    for (fields, larger) in [(6, false), (7, true)] {
+    for (fields, larger) in [(6, None), (7, Some(Refusal::NotSound))] {
         let words = Store::open(fields, Order::FieldsFirst, none, 0).unwrap().into_words();
-        assert_eq!(LoggerStore::from_words(words).is_err(), larger);
+        assert_eq!(LoggerStore::from_words(words).err(), larger);
     }
-    for (questions, larger) in [(8, false), (9, true)] {
+    for (questions, larger) in [(8, None), (9, Some(Refusal::NotSound))] {
         let words = Store::open(1, Order::FieldsFirst, numbers(questions), 0).unwrap().into_words();
-        assert_eq!(LoggerStore::from_words(words).is_err(), larger);
+        assert_eq!(LoggerStore::from_words(words).err(), larger);
     }
     assert_eq!(LoggerStore::from_words(vec![7, 0, 0, 0]), Err(Refusal::NotSound));
     assert_eq!(LoggerStore::from_words(vec![]), Err(Refusal::NotSound));
@@ -320,6 +323,7 @@ fn the_logger_uses_200_entries_at_most() {
     assert_eq!((logger.room(), logger.as_store().room()), (200, 300));
 
     let refused = all_answers(&questions).find(|rule| logger.build(rule) == Err(Refusal::NoRoom)).unwrap();
+    // A rule takes at most one new entry for each of the eight questions.
     assert!((193..=200).contains(&logger.as_store().used()));
     let mut store = Store::from(logger);
     let handle = store.build(&refused).unwrap();
@@ -336,7 +340,7 @@ fn refusals_name_the_limits_of_both() {
     named(Refusal::TooManyQuestions, format!("at most {} questions", institute.questions));
     named(Refusal::TooManyQuestions, format!("of the deck logger at most {}", logger.questions));
     let Limits { fields, questions, entries } = logger;
-    named(Refusal::NotSound, format!("more than {fields} fields, {questions} questions or {entries} entries"));
+    named(Refusal::NotSound, format!("more than {fields} fields, {questions} questions or {entries} used entries"));
     named(Refusal::NoRoom, format!("more than {},{:03}", institute.entries / 1_000, institute.entries % 1_000));
     named(Refusal::NoRoom, format!("of the deck logger more than {entries}"));
 }

@@ -10,16 +10,16 @@ use independent::{HEADING, LOGGER};
 
 use crate::lists::test_law;
 
-const MOST_QUESTIONS: u32 = LOGGER.questions as u32;
+const LOGGER_QUESTIONS: u32 = LOGGER.questions as u32;
 /// As many fields and questions as the logger takes: a few rules fill its 200 entries.
 const LARGEST: Size =
-    Size { fields: (LOGGER.fields, LOGGER.fields), gaps: Gaps::up_to(2), most_questions: MOST_QUESTIONS };
+    Size { fields: (LOGGER.fields, LOGGER.fields), gaps: Gaps::up_to(2), most_questions: LOGGER_QUESTIONS };
 /// Lists of all kinds within the logger's limits.
 const SIZES: [Size; 4] = [
     LARGEST,
     Size { fields: (0, LOGGER.fields), ..LARGEST },
     Size { fields: (2, LOGGER.fields), gaps: FAR.gaps, ..LARGEST },
-    Size { most_questions: MOST_QUESTIONS, ..TALL },
+    Size { most_questions: LOGGER_QUESTIONS, ..TALL },
 ];
 
 /// The same list opened by the logger and by the institute, in stores of any two lengths, and the same rules built in both: until one accepts
