@@ -1,11 +1,12 @@
--- `logger_build` meets its contract: it is `build_within` at the logger's limits, which the arrays have room for.
+-- `logger_build` meets its contract: it is `build_within` at the logger's limits. The arrays have room for the institute's as well, so that the promise alone tells
+-- which of the two are meant.
 use borrow.Author.Needs.{needs}
-use Rattle.terms.proofs.LimitsFit.{logger-fits}
+use Rattle.terms.proofs.LimitsFit.{limits-fit, logger-fits}
 use Rattle.logger.proofs.calls.logger_build.Statement.{statement}
 use Rattle.logger.proofs.calls.logger_build.Tie as tie
 
 build-within-requires : tie.Need-build-within-requires
-build-within-requires c κs = search (needs, logger-fits)
+build-within-requires c κs = search (needs, limits-fit, logger-fits)
 
 same-length : tie.Need-same-length
 same-length c = search needs
