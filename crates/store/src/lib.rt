@@ -16,6 +16,8 @@ pub use entries::same_entry;
 pub use opening::list_fault;
 pub use opening::open;
 pub use opening::open_within;
+pub use opening::question_in;
+pub use opening::write_opened;
 pub use words::HEADING;
 pub use words::LEAVES;
 pub use words::clear_from;

@@ -27,7 +27,7 @@ use terms::term_of;
 use terms::terms_within;
 
 // The k-th question of a list of term words, counted from 0.
-fn question_in(list: &[u32], k: usize) -> Equation
+pub fn question_in(list: &[u32], k: usize) -> Equation
     requires { ⌜ 2 * k + 2 ≤ length (now list) ⌝ }
     ensures { λ r. ⌜ r ≡ question-in (now (list .entry)) k ⌝ }
 {
@@ -130,7 +130,7 @@ fn write_list(list: &[u32], store: &mut [u32])
 }
 
 // Writes a store with no entries.
-fn write_opened(n: u32, order: u32, list: &[u32], store: &mut [u32])
+pub fn write_opened(n: u32, order: u32, list: &[u32], store: &mut [u32])
     requires { ⌜ heading-length + length (now list) ≤ length (now store) ⌝ }
     requires { ⌜ length (now list) / 2 < 2 ^ 32 ⌝ }
     ensures { λ _. ⌜ now (store .exit) ≡ spec.opened-words n order (now (list .entry)) (length (now (store .entry))) ⌝ }

@@ -11,10 +11,11 @@ use borrow.Author.Tests.{eq-eqb, ne-eqb, lt-ltb, le-ltb}
 use lib.Dec.{eqb, ltb}
 use lib.IntN.{natAbs}
 use Rattle.terms.specs.declared.term.Equation.{Equation}
+use Rattle.terms.specs.declared.term.Term.{Term}
 use Rattle.terms.specs.declared.simplification.Guard.{Guard}
 use Rattle.terms.specs.declared.simplification.Guard.the-variants.{Never, Always, Question}
 use Rattle.terms.specs.Form.{is-simplified, SimplifiedForm, is-number, is-above, is-below}
-use Rattle.terms.specs.Simplify.{turned, larger-left, lowered, never-or-question, simplify, gap}
+use Rattle.terms.specs.Simplify.{turned, larger-left, less-steps, lowered, never-or-question, simplify, gap}
 use Rattle.terms.proofs.Cases.{by-eq, by-lt}
 use Rattle.terms.proofs.Gap.{difference-abs}
 use Rattle.terms.proofs.SimplifyCases.{Sorted, kept, swapped, never-or-question-cases, simplify-cases}
@@ -133,21 +134,30 @@ simplify-turned e =
     same : Guard
     same = cond (eqb (e .left .steps .0) (e .right .steps .0)) Always Never
 
+-- ---- what it keeps
+-- What holds of both terms of an equation, and still holds of a term with steps taken off, holds of both terms of the question: simplify turns an equation
+-- round, takes steps off, and does no more.
+module _ (P : Term → Type 0) (less : (k : ℕ) (t : Term) → P t → P (less-steps k t)) where
+  abbrev BothTerms : Equation → Type 0
+  BothTerms e = P (e .left) × P (e .right)
+
+  keeps-settled : (d : Equation) → BothTerms d → IfQuestion BothTerms (never-or-question (lowered d))
+  unfolding lowered
+  keeps-settled d b = never-or-question-cases (IfQuestion BothTerms) (lowered d) (λ _ _. tt) (λ _. (less _ (d .left) (b .0), less _ (d .right) (b .1)))
+
+  keeps : (e : Equation) → BothTerms e → IfQuestion BothTerms (simplify e)
+  keeps e b = simplify-cases (IfQuestion BothTerms) e (λ _ _. tt) (λ _ _. tt) go
+    where
+      go : (d : Equation) → Sorted e d → IfQuestion BothTerms (never-or-question (lowered d))
+      go d (kept _) = keeps-settled e b
+      go d (swapped _) = keeps-settled (turned e) (b .1, b .0)
+
+  pub simplify-keeps : (e q : Equation) → P (e .left) → P (e .right) → simplify e ≡ Question q → P (q .left) × P (q .right)
+  simplify-keeps e q l r i = rw i at (keeps e (l, r))
+
 -- ---- the gap's range
--- no step count of a guard's question is above n
-abbrev StepsUpTo : ℕ → Guard → Type 0
-StepsUpTo n = IfQuestion (λ q. (q .left .steps .0 ≤ n) × (q .right .steps .0 ≤ n))
-
-simplify-steps : (n : ℕ) (e : Equation) → e .left .steps .0 ≤ n → e .right .steps .0 ≤ n → StepsUpTo n (simplify e)
-unfolding lowered
-simplify-steps n e h k = simplify-cases (StepsUpTo n) e (λ _ _. tt) (λ _ _. tt) go
-  where
-    go : (d : Equation) → Sorted e d → StepsUpTo n (never-or-question (lowered d))
-    go d (kept _) = never-or-question-cases (StepsUpTo n) (lowered e) (λ _ _. tt) (λ _. omega arith)
-    go d (swapped _) = never-or-question-cases (StepsUpTo n) (lowered (turned e)) (λ _ _. tt) (λ _. omega arith)
-
 -- of terms with at most n steps, a signed number from -n to n
 pub gap-within : (n : ℕ) (e q : Equation) → e .left .steps .0 ≤ n → e .right .steps .0 ≤ n → simplify e ≡ Question q → natAbs (gap q) ≤ n
 gap-within n e q h k i =
-    let s : (q .left .steps .0 ≤ n) × (q .right .steps .0 ≤ n) = rw i at (simplify-steps n e h k) in
+    let s = simplify-keeps (λ t. t .steps .0 ≤ n) (λ _ _ few. omega arith) e q h k i in
     difference-abs n (q .right .steps .0) (q .left .steps .0) (s .1) (s .0)

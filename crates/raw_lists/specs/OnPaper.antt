@@ -1,0 +1,26 @@
+-- One raw list in two spellings: "Designers list equations as on paper, some turned round or doubled."
+use Prim.Native.Nat.{ℕ, _+_}
+use mathlib.Core.List.{List}
+use Rattle.terms.specs.declared.term.Equation.{Equation}
+use Rattle.terms.specs.declared.term.Term.{Term}
+use Rattle.terms.specs.Simplify.{turned}
+use Rattle.terms.specs.Words.{steps, term, equation}
+use Rattle.raw_lists.specs.Ascends.{In}
+
+-- steps added on both sides
+abbrev pub more-steps : ℕ → Term → Term
+more-steps k t = term (t .field) (steps (t .steps .0 + k))
+
+abbrev pub raised : ℕ → Equation → Equation
+raised k e = equation (more-steps k (e .left)) (more-steps k (e .right))
+
+-- d is e in another spelling: turned round, and with steps added on both sides, as often as one likes
+pub data Spells (e : Equation) : Equation → Type 0 where
+  as-it-is : Spells e e
+  turned-round : {d : Equation} → Spells e d → Spells e (turned d)
+  steps-added : {d : Equation} (k : ℕ) → Spells e d → Spells e (raised k d)
+
+-- each equation of the one list is spelled somewhere in the other, however often and wherever, and the other spells nothing else
+pub record Respelled (es ds : List Equation) : Type 0 where
+  pub spelled : (e : Equation) → In e es → (d : Equation) × In d ds × Spells e d
+  pub spells : (d : Equation) → In d ds → (e : Equation) × In e es × Spells e d
