@@ -7,7 +7,6 @@ use mathlib.Core.Bool.{Bool, true, false, true≢false, false≢true, not, _&&_,
 use mathlib.Core.Logic.{_≢_, _↔_, _⊎_, inl, inr}
 use mathlib.Core.List.{List}
 use native.Mathlib.Omega.{arith}
-use native.Mathlib.Decide.{ℕ-discrete}
 use borrow.Author.Tests.{eq-eqb, eqb-true, lt-ltb, le-ltb, not-true, not-false}
 use lib.Dec.{eqb}
 use lib.ListN.{getD}
@@ -19,8 +18,7 @@ use Rattle.terms.specs.declared.term.Equation.{Equation}
 use Rattle.terms.specs.Order.{fields-first, before}
 use Rattle.terms.specs.Words.{field}
 use Rattle.terms.proofs.Cases.{by-test}
-use Rattle.terms.proofs.Numbers.{equations-equal}
-use Rattle.terms.proofs.QuestionOrder.{fields-first-strict-total}
+use Rattle.terms.proofs.QuestionOrder.{fields-first-strict-total, neither-before}
 use Rattle.normal_form.specs.Check.{asks-after, parts-ordered, left-apart, no-rule-applies}
 use Rattle.normal_form.specs.KeptTable.{KeptTable}
 use Rattle.normal_form.specs.Limits.{table-limits}
@@ -51,10 +49,7 @@ first-or-second false b e = inl refl
 -- ---- an equation that is not after g is g, or before g
 not-after : (g h : Equation) → before fields-first g h ≡ false → (h ≡ g) ⊎ Precedes h g
 not-after g h e = by-test (λ b. before fields-first h g ≡ b → (h ≡ g) ⊎ Precedes h g) (before fields-first h g) (λ _ b. inr b)
-    (λ _ b.
-    let alike : (h ≢ g) → ⊥ = λ n. elim (fields-first-strict-total .total h g n) [ inl x ↦ true≢false (sym x ∙ b) | inr x ↦ true≢false (sym x ∙ e) ] in
-    let same : (p : Equation → ℕ) → p h ≡ p g = λ p. elim (ℕ-discrete (p h) (p g)) [ yes x ↦ x | no n ↦ absurd (alike (λ x. n (ap p x))) ] in
-    inl (equations-equal h g (same (λ q. q .left .field .0)) (same (λ q. q .left .steps .0)) (same (λ q. q .right .field .0)) (same (λ q. q .right .steps .0)))) refl
+    (λ _ b. inl (neither-before fields-first-strict-total h g b e)) refl
 
 module _ {t : List ℕ} {root : ℕ} (k : KeptTable t root) where
   abbrev m : ℕ

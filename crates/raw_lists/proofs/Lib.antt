@@ -4,3 +4,11 @@ pub mod InsertWays
 pub mod PutWays
 pub mod OpenRawWays
 pub mod CollectWays
+pub mod ExactMembers
+pub mod OneList
+pub mod Respelling
+pub mod ListedWords
+pub mod AcceptedList
+pub mod RawAccepts
+pub mod RawOpens
+pub mod SameOpening

@@ -1,9 +1,9 @@
 -- What each definition of specs/OpenRaw is on each way through the code: the tests on that way decide its own tests.
 use Prim.Native.Nat.{ℕ, _+_, _-_, _*_, _/_, _%_, _≤_, _<_, _^_}
-use mathlib.Core.Path.{_≡_, refl, sym, ap, _∙_}
+use mathlib.Core.Path.{_≡_, sym, ap, _∙_}
 use mathlib.Core.Logic.{_≢_}
-use mathlib.Core.Bool.{Bool, true, false}
-use mathlib.Core.List.{List, [], _∷_}
+use mathlib.Core.Bool.{false}
+use mathlib.Core.List.{List}
 use native.Mathlib.Nat.{sub-zero}
 use native.Mathlib.Omega.{arith}
 use borrow.Author.Tests.{lt-ltb, le-ltb, eq-eqb, ne-eqb}
@@ -28,8 +28,8 @@ use Rattle.raw_lists.specs.declared.collecting.Collected.{Collected}
 use Rattle.raw_lists.specs.declared.collecting.Collected.the-variants as collected
 use Rattle.raw_lists.specs.Equations.{equations, words-of}
 use Rattle.raw_lists.specs.Limits.{most-equations}
-use Rattle.raw_lists.specs.Needs.{Holds, Collects}
-use Rattle.raw_lists.specs.OpenRaw.{all-allowed, resulting-list, raw-refused, open-resulting, open-collected, open-raw-in, open-raw}
+use Rattle.raw_lists.specs.Needs.{Collects}
+use Rattle.raw_lists.specs.OpenRaw.{resulting-list, raw-refused, open-resulting, open-collected, open-raw-in, open-raw}
 use Rattle.raw_lists.proofs.EquationWords.{words-of-equations}
 
 -- ---- the resulting list

@@ -2,7 +2,8 @@ pub mod Limits
 pub mod Equations
 pub mod Resulting
 pub mod Ascends
-pub mod OnPaper
 pub mod RawOpened
 pub mod OpenRaw
+pub mod OpensResulting
+pub mod OnPaper
 pub mod Needs

@@ -12,7 +12,7 @@ use Rattle.raw_lists.specs.declared.collecting.Collected.{Collected}
 use Rattle.raw_lists.specs.declared.collecting.Collected.the-variants.{Questions, OutOfLimits}
 use Rattle.raw_lists.specs.Equations.{equations}
 use Rattle.raw_lists.specs.OpenRaw.{all-allowed}
-use Rattle.raw_lists.specs.Resulting.{with-question, with-equation, collected, resulting}
+use Rattle.raw_lists.specs.Resulting.{with-equation, collected, resulting}
 
 -- how many questions of a list come before q, up to the first that does not
 unfoldable pub place : Order → Equation → List Equation → ℕ

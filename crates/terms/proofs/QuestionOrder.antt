@@ -1,10 +1,11 @@
 -- Comparing lists of numbers one after the other is a strict total order on lists of one length, so an order of questions is one if the
 -- numbers that it compares tell all questions apart.
 use Prim.Native.Nat.{ℕ, _<_}
-use mathlib.Core.Path.{_≡_, refl, sym, ap₂, _∙_}
+use mathlib.Core.Path.{_≡_, refl, sym, ap, ap₂, _∙_}
 use mathlib.Core.Logic.{_≢_, _⊎_, inl, inr}
 use mathlib.Core.Bool.{Bool, true, false, false≢true, _&&_, _||_}
 use mathlib.Core.List.{List, [], _∷_}
+use native.Mathlib.Decide.{ℕ-discrete}
 use native.Mathlib.Omega.{arith}
 use borrow.Author.Tests.{lt-ltb, le-ltb, eq-eqb, ne-eqb}
 use lib.Dec.{eqb}
@@ -84,3 +85,14 @@ left-first-strict-total = strict-total left-first (λ p q. refl) (λ p q e. equa
 pub orders-strict-total : (order : ListOrder) → StrictTotal (before (order-of order))
 orders-strict-total FieldsFirst = fields-first-strict-total
 orders-strict-total LeftFirst = left-first-strict-total
+
+-- In such an order two equations of which neither comes before the other are one: their numbers can be compared.
+pub neither-before : {precedes : Equation → Equation → Bool} → StrictTotal precedes → (p q : Equation) → precedes p q ≡ false → precedes q p ≡ false → p ≡ q
+neither-before total p q a b =
+    equations-equal p q (same (λ e. e .left .field .0)) (same (λ e. e .left .steps .0)) (same (λ e. e .right .field .0)) (same (λ e. e .right .steps .0))
+  where
+    alike : p ≢ q → ⊥
+    alike n = elim (total .total p q n) [ inl x ↦ false≢true (sym a ∙ x) | inr x ↦ false≢true (sym b ∙ x) ]
+
+    same : (number : Equation → ℕ) → number p ≡ number q
+    same number = elim (ℕ-discrete (number p) (number q)) [ yes x ↦ x | no n ↦ absurd (alike (λ x. n (ap number x))) ]

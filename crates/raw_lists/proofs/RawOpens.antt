@@ -1,0 +1,60 @@
+-- An accepted opening with a raw list is what open does with the resulting list: that list ascends, its questions are simplified and within the limits, and the tests of
+-- its length are open's. So the store is sound, and no question of it can be 15 or 16.
+use Prim.Native.Nat.{ℕ}
+use mathlib.Core.Path.{_≡_, refl, sym, ap, _∙_}
+use mathlib.Core.Bool.{true}
+use mathlib.Core.List.{List}
+use native.Mathlib.Omega.{arith}
+use lib.ListN.{length}
+use Rattle.store.specs.declared.answer.Opened.{Opened}
+use Rattle.store.specs.declared.answer.Opened.the-variants.{Accepted, Refused}
+use Rattle.store.specs.Open.{opening, opened-words, opened, open-store}
+use Rattle.store.specs.Sound.{sound}
+use Rattle.store.proofs.OpenSound.{opened-sound}
+use Rattle.store.proofs.OpenWays.{known-order, accepted, opens}
+use Rattle.terms.specs.declared.limits.Limits.{Limits}
+use Rattle.terms.specs.Limits.{terms-within}
+use Rattle.terms.specs.Order.{order-of, order-named}
+use Rattle.terms.proofs.OrderNumbers.{number-names}
+use Rattle.raw_lists.specs.declared.answer.RawOpened.the-variants as raw-answer
+use Rattle.raw_lists.specs.Equations.{equations}
+use Rattle.raw_lists.specs.OpenRaw.{resulting-list, open-raw}
+use Rattle.raw_lists.specs.OpensResulting.{OpensResulting}
+use Rattle.raw_lists.specs.Resulting.{resulting}
+use Rattle.raw_lists.proofs.AcceptedList.{words-even, resulting-taken}
+use Rattle.raw_lists.proofs.RawAccepts.{RawAccepts, raw-accepts}
+
+module _ (limits : Limits) (n order : ℕ) (raw s : List ℕ) where
+  -- open takes the resulting list
+  opens-list : {words : List ℕ} → (a : RawAccepts limits n order raw s words) → opening limits n order (resulting-list (a .known) raw) (length s) ≡ Accepted
+  opens-list a =
+      let list = resulting-list (a .known) raw in
+      sym (known-order limits n order list (length s) (a .fields) refl (ap order-named (a .order-is) ∙ number-names (a .known))
+      (accepted (a .known) limits n list (length s) (omega (arith, words-even (resulting (order-of (a .known)) (equations raw)))) (a .few) refl refl
+      (resulting-taken (a .known) raw (terms-within limits n) (a .taken .allowed)) (a .fits)))
+
+  pub raw-opens : open-raw limits n order raw s .answer ≡ raw-answer.Accepted → OpensResulting limits n order raw s
+  raw-opens e =
+      let a = raw-accepts limits n order raw s e in
+      record {
+        known = a .known;
+        order-is = a .order-is;
+        as-open = sym (opens limits n order (resulting-list (a .known) raw) s (sym (opens-list a)) refl (a .words-are));
+      }
+
+  -- ---- what follows of the words
+  module _ (o : OpensResulting limits n order raw s) where
+    pub resulting-opening : opening limits n order (resulting-list (o .known) raw) (length s) ≡ Accepted
+    unfolding open-store
+    resulting-opening = go (opening limits n order (resulting-list (o .known) raw) (length s)) (ap (λ x. x .answer) (o .as-open))
+      where
+        go : (a : Opened) → opened a n order (resulting-list (o .known) raw) s .answer ≡ Accepted → a ≡ Accepted
+        go Accepted e = refl
+        go (Refused f) e = e
+
+    pub resulting-opened : open-raw limits n order raw s .words ≡ opened-words n order (resulting-list (o .known) raw) (length s)
+    unfolding open-store
+    resulting-opened = sym (ap (λ x. x .words) (o .as-open)) ∙ rw resulting-opening
+
+    pub raw-sound : sound limits (open-raw limits n order raw s .words) ≡ true
+    raw-sound = rw resulting-opened (opened-sound limits n order (resulting-list (o .known) raw) s resulting-opening)

@@ -1,0 +1,55 @@
+-- Raw lists that differ in their spelling have one resulting list: an equation turned round, or with the same steps added on both sides, simplifies to the same,
+-- and how often and where it stands is nothing that the resulting list knows.
+use Prim.Native.Nat.{ℕ, _+_}
+use mathlib.Core.Path.{_≡_, refl, sym, _∙_}
+use mathlib.Core.Logic.{_↔_}
+use mathlib.Core.Bool.{cond}
+use mathlib.Core.List.{List}
+use native.Mathlib.Omega.{arith}
+use Rattle.terms.specs.declared.order.ListOrder.{ListOrder}
+use Rattle.terms.specs.declared.term.Equation.{Equation}
+use Rattle.terms.specs.Order.{order-of}
+use Rattle.terms.specs.Simplify.{turned, larger-left, lowered, simplify}
+use Rattle.terms.proofs.Cases.{by-lt}
+use Rattle.terms.proofs.Numbers.{equations-equal}
+use Rattle.terms.proofs.QuestionOrder.{orders-strict-total}
+use Rattle.terms.proofs.SimplifyForm.{simplify-turned}
+use Rattle.terms.proofs.SimplifyTruth.{same-test}
+use Rattle.raw_lists.specs.Ascends.{WrittenIn}
+use Rattle.raw_lists.specs.OnPaper.{raised, Spells, as-it-is, turned-round, steps-added, Respelled}
+use Rattle.raw_lists.specs.Resulting.{resulting}
+use Rattle.raw_lists.proofs.OneList.{same-written}
+
+-- ---- one equation
+module _ (k : ℕ) where
+  lowered-raised : (e : Equation) → lowered (raised k e) ≡ lowered e
+  unfolding lowered
+  lowered-raised e = equations-equal (lowered (raised k e)) (lowered e) refl (omega arith) refl (omega arith)
+
+  sorted-raised : (e : Equation) → larger-left (raised k e) ≡ raised k (larger-left e)
+  unfolding larger-left
+  sorted-raised e =
+      by-lt (λ t. cond t (turned (raised k e)) (raised k e) ≡ raised k (cond t (turned e) e)) (e .left .field .0) (e .right .field .0) (λ _. refl) (λ _. refl)
+
+  simplify-raised : (e : Equation) → simplify (raised k e) ≡ simplify e
+  unfolding simplify
+  simplify-raised e =
+      rw (same-test (e .left .steps .0 + k) (e .right .steps .0 + k) (e .left .steps .0) (e .right .steps .0) (λ h. omega arith) (λ h. omega arith), sorted-raised e, lowered-raised (larger-left e))
+
+-- An equation in another spelling simplifies to the same.
+pub spells-same : {e d : Equation} → Spells e d → simplify d ≡ simplify e
+spells-same as-it-is = refl
+spells-same (turned-round {d = d} s) = simplify-turned d ∙ spells-same s
+spells-same (steps-added {d = d} k s) = simplify-raised k d ∙ spells-same s
+
+-- ---- raw lists
+module _ {es ds : List Equation} (r : Respelled es ds) where
+  same-questions : (q : Equation) → WrittenIn es q ↔ WrittenIn ds q
+  same-questions q = (
+    λ w. let d = r .spelled (w .0) (w .1) in (d .0, d .1, spells-same (d .2) ∙ w .2),
+    λ w. let e = r .spells (w .0) (w .1) in (e .0, e .1, sym (spells-same (e .2)) ∙ w .2),
+  )
+
+  -- Turning equations round, adding steps on both sides, doubling and reordering change nothing in the resulting list.
+  pub respelled-same : (order : ListOrder) → resulting (order-of order) es ≡ resulting (order-of order) ds
+  respelled-same order = same-written (order-of order) (orders-strict-total order) es ds same-questions
