@@ -1,42 +1,44 @@
--- The handle law with openings between the calls: a refused open leaves the books, and an accepted one begins them as the law's own run begins.
+-- The handle law with openings between the calls: a refused one leaves the books, and an accepted one begins them as the law's own run begins.
 use Prim.Native.Nat.{ℕ}
-use mathlib.Core.Path.{_≡_, refl, ap}
+use mathlib.Core.Path.{_≡_}
+use mathlib.Core.Logic.{_≢_}
 use mathlib.Core.List.{List, [], _∷_}
-use lib.ListN.{length}
-use Rattle.operations.specs.Between.{Step, call, reopen, reopened, after-step, run-steps}
-use Rattle.operations.specs.Handles.{Books, opened-books, HandleLaw}
+use native.Mathlib.Decide.{ℕ-discrete}
+use borrow.Author.Tests.{eq-eqb, ne-eqb}
+use Rattle.operations.specs.Between.{Step, call, reopen, after-step, run-steps}
+use Rattle.operations.specs.Handles.{Books, first-books, HandleLaw}
 use Rattle.operations.specs.Kept.{Kept}
-use Rattle.store.specs.declared.answer.Opened.{Opened}
-use Rattle.store.specs.declared.answer.Opened.the-variants.{Accepted, Refused}
-use Rattle.store.specs.declared.answer.OpenFault.{OpenFault}
-use Rattle.store.specs.Open.{opening, opened, open-store}
+use Rattle.operations.specs.Openings.{Opening, opened-by}
 use Rattle.terms.specs.declared.limits.Limits.{Limits}
-use Rattle.operations.proofs.HandleLaw.{kept-after, kept-law, opened-kept}
+use Rattle.operations.proofs.EitherOpening.{either-kept, refused-leaves}
+use Rattle.operations.proofs.HandleLaw.{kept-after, kept-law}
 
-module _ (limits : Limits) (b : Books) (n order : ℕ) (list : List ℕ) where
-  -- "On refusal ... all lent words are unchanged.": an open that is refused is a call that leaves the store, and the ledger, as it is
-  pub refused-opening-leaves : (f : OpenFault) → opening limits n order list (length (b .words)) ≡ Refused f → after-step limits b (reopen n order list) ≡ b
-  unfolding open-store
-  refused-opening-leaves f e = ap (λ o. reopened b (opened o n order list (b .words))) e
+module _ (limits : Limits) (b : Books) (o : Opening) where
+  -- "On refusal ... all lent words are unchanged.": an opening that is refused is a call that leaves the store, and the ledger, as it is
+  pub refused-opening-leaves : opened-by limits o (b .words) .answer ≢ 0 → after-step limits b (reopen o) ≡ b
+  refused-opening-leaves n =
+      simp (ne-eqb (opened-by limits o (b .words) .answer) 0 n) (λ i. record { words = refused-leaves limits (b .words) o n i; ledger = b .ledger })
 
-  kept-reopened : Kept limits b → Kept limits (after-step limits b (reopen n order list))
-  unfolding open-store
-  kept-reopened k = go (opening limits n order list (length (b .words))) refl
-    where
-      go : (o : Opened) → opening limits n order list (length (b .words)) ≡ o → Kept limits (reopened b (opened o n order list (b .words)))
-      go Accepted e = opened-kept limits n order list (b .words) e
-      go (Refused f) e = k
+  -- "It starts with the pairs 0, never and 1, always.": and so does an opening that is accepted
+  pub accepted-opening-begins : opened-by limits o (b .words) .answer ≡ 0 → after-step limits b (reopen o) ≡ first-books (opened-by limits o (b .words) .words)
+  accepted-opening-begins e = simp (eq-eqb (opened-by limits o (b .words) .answer) 0 e)
+
+  kept-reopened : Kept limits b → Kept limits (after-step limits b (reopen o))
+  kept-reopened k = elim (ℕ-discrete (opened-by limits o (b .words) .answer) 0) [
+    | yes e ↦ rw (accepted-opening-begins e) (either-kept limits (b .words) o e)
+    | no n ↦ rw (refused-opening-leaves n) k
+  ]
 
 kept-step : {limits : Limits} {b : Books} → Kept limits b → (x : Step) → Kept limits (after-step limits b x)
 kept-step k (call c) = kept-after k c
-kept-step {limits} {b} k (reopen n order list) = kept-reopened limits b n order list k
+kept-step {limits} {b} k (reopen o) = kept-reopened limits b o k
 
 kept-steps : {limits : Limits} {b : Books} → Kept limits b → (steps : List Step) → Kept limits (run-steps limits b steps)
 unfolding run-steps
 kept-steps k [] = k
 kept-steps k (x ∷ xs) = kept-steps (kept-step k x) xs
 
--- "Calls that leave the store as it is may come between.": the handle law after any such list
-pub law-between : (limits : Limits) (n order : ℕ) (list s : List ℕ) → opening limits n order list (length s) ≡ Accepted
-    → (steps : List Step) → HandleLaw (run-steps limits (opened-books n order list (length s)) steps .ledger)
-law-between limits n order list s e steps = kept-law (kept-steps (opened-kept limits n order list s e) steps)
+-- "Calls that leave the store as it is may come between.": the handle law after any such list, from either opening
+pub law-between : (limits : Limits) (o : Opening) (s : List ℕ) → opened-by limits o s .answer ≡ 0
+    → (steps : List Step) → HandleLaw (run-steps limits (first-books (opened-by limits o s .words)) steps .ledger)
+law-between limits o s e steps = kept-law (kept-steps (either-kept limits s o e) steps)

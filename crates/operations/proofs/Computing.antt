@@ -5,6 +5,9 @@ use Rattle.diagram.specs.Questions.{questions-from}
 use Rattle.facts.specs.State.{plan, decide, spacing, some-sheet}
 use Rattle.operations.specs.Handles.{run}
 use Rattle.operations.specs.Operations.{added, build, negate, join, choose}
+use Rattle.raw_lists.specs.Equations.{equations, words-of}
+use Rattle.raw_lists.specs.OpenRaw.{all-allowed, open-resulting, open-collected, open-raw-in, open-raw}
+use Rattle.raw_lists.specs.Resulting.{with-question, with-equation, collected}
 use Rattle.store.specs.Entries.{first, is-entry, with-entry}
 use Rattle.store.specs.Meaning.{next, follow}
 use Rattle.store.specs.Open.{question-fault, list-fault, opening-in, opening, opened-words, open-store}
@@ -30,6 +33,11 @@ unfoldable pub stores-compute : Type 0
 unfolding facts-compute question-fault list-fault opening-in opening opened-words open-store all-below all-zero list-sound heading-sound entry-sound differ-below sound next follow tree-within
 stores-compute = Unit {0}
 
+-- raw lists, and opening with them
+unfoldable pub raw-lists-compute : Type 0
+unfolding stores-compute equations words-of with-question with-equation collected all-allowed open-resulting open-collected open-raw-in open-raw
+raw-lists-compute = Unit {0}
+
 -- rule tables
 unfoldable pub tables-compute : Type 0
 unfolding facts-compute decode on-list well-formed equation-fault row-fault rows-fault table-fault row-truth row-truths
@@ -42,5 +50,5 @@ diagrams-compute = Unit {0}
 
 -- build, negate, join, choose, and a list of calls
 unfoldable pub operations-compute : Type 0
-unfolding stores-compute tables-compute diagrams-compute added build negate join choose run
+unfolding raw-lists-compute tables-compute diagrams-compute added build negate join choose run
 operations-compute = Unit {0}

@@ -7,6 +7,7 @@ pub mod CallCases
 pub mod MeaningAdded
 pub mod RefusedUnchanged
 pub mod HandleLaw
+pub mod EitherOpening
 pub mod BetweenLaw
 pub mod RunLater
 pub mod CallMeans

@@ -8,10 +8,12 @@ use lib.ListN.{length, replicate}
 use Rattle.operations.specs.declared.answer.Built.the-variants.{Handle}
 use Rattle.operations.specs.Between.{call, reopen, run-steps}
 use Rattle.operations.specs.BooleanLaws.{letter, not-of, BooleanLaw, is-letter, is-not, meanwhile}
-use Rattle.operations.specs.Handles.{build, negate, answer-to, pair, Books, opened-books, after, run, In, newest}
-use Rattle.operations.specs.ThreeEqual.{three-equal, last-equal, outer-equal, not-outer, after-case-6}
+use Rattle.operations.specs.Handles.{build, negate, answer-to, pair, Books, first-books, opened-books, after, run, In, newest}
+use Rattle.operations.specs.Openings.{by-list, by-raw-list, opened-by}
+use Rattle.operations.specs.ThreeEqual.{three-equal, three-equal-raw, last-equal, outer-equal, not-outer, after-case-6}
 use Rattle.store.specs.declared.answer.Opened.the-variants.{Accepted}
 use Rattle.store.specs.Open.{opening}
+use Rattle.store.specs.Outcome.{Outcome}
 use Rattle.tables.specs.Rows.{rule-meaning}
 use Rattle.terms.specs.declared.order.ListOrder.{ListOrder}
 use Rattle.terms.specs.declared.order.ListOrder.the-variants.{FieldsFirst, LeftFirst}
@@ -30,7 +32,15 @@ module _ (order : ℕ) where
   -- leaves them.
   abbrev builds-between : Books
   builds-between = run-steps store-limits (opened-books 3 order three-equal 22)
-      (call (build outer-equal) ∷ reopen 3 order three-equal ∷ call (build last-equal) ∷ reopen 17 order [] ∷ call (build outer-equal) ∷ reopen 3 2 [] ∷ call (build not-outer) ∷ [])
+      (call (build outer-equal) ∷ reopen (by-list 3 order three-equal) ∷ call (build last-equal) ∷ reopen (by-list 17 order []) ∷ call (build outer-equal) ∷ reopen (by-raw-list 3 2 [])
+      ∷ call (build not-outer) ∷ [])
+
+  -- and with the list as it stood on paper
+  abbrev opened-raw : Outcome ℕ
+  opened-raw = opened-by store-limits (by-raw-list 3 order three-equal-raw) (replicate 22 7)
+
+  abbrev raw-builds : Books
+  raw-builds = run store-limits (first-books (opened-raw .words)) (build last-equal ∷ build outer-equal ∷ build not-outer ∷ [])
 
   -- x is 3 = 2, handle 5, in a store with room for eight entries
   abbrev one-build : Books
@@ -52,6 +62,11 @@ pub run-between : (order : ListOrder) → AsInThePaper (order-number order) (bui
 unfolding operations-compute run-steps
 run-between FieldsFirst = (refl, refl)
 run-between LeftFirst = (refl, refl)
+
+pub run-from-raw : (order : ListOrder) → (opened-raw (order-number order) .answer ≡ 0) × AsInThePaper (order-number order) (raw-builds (order-number order))
+unfolding operations-compute
+run-from-raw FieldsFirst = (refl, (refl, refl))
+run-from-raw LeftFirst = (refl, (refl, refl))
 
 -- ---- not (not x) and x
 -- both calls are accepted

@@ -1,6 +1,7 @@
 pub mod Built
 pub mod Operations
 pub mod Handles
+pub mod Openings
 pub mod Between
 pub mod BooleanLaws
 pub mod Rests

@@ -6,6 +6,10 @@ use mathlib.Core.List.{List, [], _∷_}
 abbrev pub three-equal : List ℕ
 three-equal = 2 ∷ 1 ∷ 3 ∷ 1 ∷ 3 ∷ 2 ∷ []
 
+-- the same on paper: 1 = 2, S(3) = S(1), 2 = 3, 2 = 1 once more, 1 = 1 and S(2) = 0
+abbrev pub three-equal-raw : List ℕ
+three-equal-raw = 1 ∷ 2 ∷ 35 ∷ 33 ∷ 2 ∷ 3 ∷ 2 ∷ 1 ∷ 1 ∷ 1 ∷ 34 ∷ 0 ∷ []
+
 -- the rule 3 = 2
 abbrev pub last-equal : List ℕ
 last-equal = 2 ∷ 3 ∷ 2 ∷ 0 ∷ []

@@ -12,3 +12,4 @@ pub mod AcceptedList
 pub mod RawAccepts
 pub mod RawOpens
 pub mod SameOpening
+pub mod RefusedLeaves

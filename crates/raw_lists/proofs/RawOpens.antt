@@ -13,9 +13,10 @@ use Rattle.store.specs.Sound.{sound}
 use Rattle.store.proofs.OpenSound.{opened-sound}
 use Rattle.store.proofs.OpenWays.{known-order, accepted, opens}
 use Rattle.terms.specs.declared.limits.Limits.{Limits}
+use Rattle.terms.specs.declared.order.ListOrder.{ListOrder}
 use Rattle.terms.specs.Limits.{terms-within}
-use Rattle.terms.specs.Order.{order-of, order-named}
-use Rattle.terms.proofs.OrderNumbers.{number-names}
+use Rattle.terms.specs.Order.{order-of, order-number, order-named}
+use Rattle.terms.proofs.OrderNumbers.{number-names, number-only}
 use Rattle.raw_lists.specs.declared.answer.RawOpened.the-variants as raw-answer
 use Rattle.raw_lists.specs.Equations.{equations}
 use Rattle.raw_lists.specs.OpenRaw.{resulting-list, open-raw}
@@ -58,3 +59,17 @@ module _ (limits : Limits) (n order : ℕ) (raw s : List ℕ) where
 
     pub raw-sound : sound limits (open-raw limits n order raw s .words) ≡ true
     raw-sound = rw resulting-opened (opened-sound limits n order (resulting-list (o .known) raw) s resulting-opening)
+
+-- The same with an order for its number.
+module _ (limits : Limits) (order : ListOrder) (n : ℕ) (raw s : List ℕ) (e : open-raw limits n (order-number order) raw s .answer ≡ raw-answer.Accepted) where
+  abbrev o : OpensResulting limits n (order-number order) raw s
+  o = raw-opens limits n (order-number order) raw s e
+
+  same-list : resulting-list (o .known) raw ≡ resulting-list order raw
+  same-list = ap (λ known. resulting-list known raw) (sym (number-only order (o .known) (o .order-is)))
+
+  pub opens-in-order : opening limits n (order-number order) (resulting-list order raw) (length s) ≡ Accepted
+  opens-in-order = rw same-list at (resulting-opening limits n (order-number order) raw s o)
+
+  pub opened-in-order : open-raw limits n (order-number order) raw s .words ≡ opened-words n (order-number order) (resulting-list order raw) (length s)
+  opened-in-order = resulting-opened limits n (order-number order) raw s o ∙ ap (λ list. opened-words n (order-number order) list (length s)) same-list

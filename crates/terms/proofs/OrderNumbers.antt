@@ -1,6 +1,6 @@
 -- Each of the two orders has a number of its own, and no other number names an order: a number is compared with the two, one after the other.
 use Prim.Native.Nat.{ℕ}
-use mathlib.Core.Path.{_≡_, refl, ap, _∙_}
+use mathlib.Core.Path.{_≡_, refl, sym, ap, _∙_}
 use mathlib.Core.Logic.{_≢_}
 use mathlib.Core.Bool.{cond}
 use native.Mathlib.Omega.{arith}
@@ -31,6 +31,12 @@ named-number k order =
     number-of : NamedOrder → ℕ
     number-of (Known o) = order-number o
     number-of Unknown = 0
+
+-- so that no two orders have one number,
+pub number-only : (order other : ListOrder) → order-number order ≡ order-number other → order ≡ other
+number-only order other e =
+    let named : Known order ≡ Known other = sym (number-names order) ∙ ap order-named e ∙ number-names other in
+    cc
 
 -- and a number that no order has names none.
 pub unknown-number : (k : ℕ) → ((order : ListOrder) → k ≢ order-number order) → order-named k ≡ Unknown
