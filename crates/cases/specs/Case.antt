@@ -12,6 +12,8 @@ use Rattle.normal_form.specs.Limits.{table-limits}
 use Rattle.operations.specs.declared.answer.Built.{Built}
 use Rattle.operations.specs.Built.{built-number, built-result}
 use Rattle.operations.specs.Operations as operation
+use Rattle.raw_lists.specs.OpenRaw as raw-lists
+use Rattle.raw_lists.specs.RawOpened.{raw-number}
 use Rattle.reading.specs.Read.{read-sheet, read-number, read-result}
 use Rattle.store.specs.declared.answer.Opened.{Opened}
 use Rattle.store.specs.Open.{open-store}
@@ -31,6 +33,8 @@ pub data CaseCall : Type 0 where
   simplify : ℕ → ℕ → CaseCall
   -- n, the order and the list
   open-with : ℕ → ℕ → List ℕ → CaseCall
+  -- n, the order and the raw list
+  open-raw : ℕ → ℕ → List ℕ → CaseCall
   -- the words of a rule table
   build : List ℕ → CaseCall
   -- open and build by the logger, with the same arguments
@@ -80,6 +84,9 @@ abbrev pub outcomes : List ℕ → List CaseCall → List CaseOutcome
 outcomes s [] = []
 outcomes s (simplify l r ∷ calls) = simplified-as (answer (simplify-words term-limits l r)) ∷ outcomes s calls
 outcomes s (open-with n order list ∷ calls) = let o = open-store store-limits n order list s in opened-as o list ∷ outcomes (o .words) calls
+outcomes s (open-raw n order raw ∷ calls) =
+    let o = raw-lists.open-raw store-limits n order raw s in
+    answered (raw-number (o .answer)) 0 (o .words) raw ∷ outcomes (o .words) calls
 outcomes s (build table ∷ calls) = let o = operation.build store-limits s table in built-as o table ∷ outcomes (o .words) calls
 outcomes s (logger-open n order list ∷ calls) = let o = open-store logger-limits n order list s in opened-as o list ∷ outcomes (o .words) calls
 outcomes s (logger-build table ∷ calls) = let o = operation.build logger-limits s table in built-as o table ∷ outcomes (o .words) calls

@@ -1,3 +1,4 @@
 pub mod Case
 pub mod LoggerTable
+pub mod RawTable
 pub mod Table

@@ -7,7 +7,7 @@ use Rattle.operations.specs.Handles.{run}
 use Rattle.operations.specs.Operations.{added, build, negate, join, choose}
 use Rattle.raw_lists.specs.Equations.{equations, words-of}
 use Rattle.raw_lists.specs.OpenRaw.{all-allowed, open-resulting, open-collected, open-raw-in, open-raw}
-use Rattle.raw_lists.specs.Resulting.{with-question, with-equation, collected}
+use Rattle.raw_lists.specs.Resulting.{remaining, side, with-question, with-equation, collected}
 use Rattle.store.specs.Entries.{first, is-entry, with-entry}
 use Rattle.store.specs.Meaning.{next, follow}
 use Rattle.store.specs.Open.{question-fault, list-fault, opening-in, opening, opened-words, open-store}
@@ -35,7 +35,7 @@ stores-compute = Unit {0}
 
 -- raw lists, and opening with them
 unfoldable pub raw-lists-compute : Type 0
-unfolding stores-compute equations words-of with-question with-equation collected all-allowed open-resulting open-collected open-raw-in open-raw
+unfolding stores-compute equations words-of remaining side with-question with-equation collected all-allowed open-resulting open-collected open-raw-in open-raw
 raw-lists-compute = Unit {0}
 
 -- rule tables

@@ -1,41 +1,60 @@
 -- The resulting list ascends strictly, as each question is put behind those that come before it and in front of the others; and two lists that ascend strictly
 -- and have the same members are equal, since the first of each is the one that comes before all others.
+use Prim.Native.Nat.{ℕ}
 use mathlib.Core.Path.{_≡_, refl, sym, ap, ap₂, _∙_}
 use mathlib.Core.Logic.{_↔_, inl, inr}
 use mathlib.Core.Bool.{Bool, true, false, false≢true}
 use mathlib.Core.List.{List, [], _∷_, List·Memᴰ·head, List·Memᴰ·tail, List·Memᴰ·not-nil, List·Memᴰ·cases-cons}
-use Rattle.terms.specs.declared.simplification.Guard.{Guard}
-use Rattle.terms.specs.declared.simplification.Guard.the-variants.{Never, Always, Question}
+use mathlib.Core.Option.{Option, none, some}
+use native.Mathlib.Omega.{arith}
 use Rattle.terms.specs.declared.term.Equation.{Equation}
 use Rattle.terms.specs.Order.{Order, before, StrictTotal}
-use Rattle.terms.specs.Simplify.{simplify}
 use Rattle.raw_lists.specs.Ascends.{In, Ascends, WrittenIn}
-use Rattle.raw_lists.specs.Resulting.{with-question, with-equation, collected, resulting}
+use Rattle.raw_lists.specs.Resulting.{remaining, Side, behind, in-front, there, side, with-question, with-equation, collected, resulting}
 use Rattle.raw_lists.proofs.ExactMembers.{put-only, exact-members}
 
 module _ (order : Order) (total : StrictTotal (before order)) where
   -- ---- the list ascends
+  -- what comes behind another, or in front of it, does so in the order
+  side-behind : (q p : Equation) → side order q p ≡ behind → before order p q ≡ true
+  unfolding side
+  side-behind q p = go (before order p q) refl (before order q p) refl
+    where
+      go : (s : Bool) → before order p q ≡ s → (t : Bool) → before order q p ≡ t → side order q p ≡ behind → before order p q ≡ true
+      go true s t _ e = s
+      go false s true t e = absurd (let d : in-front ≡ behind = rw (side, s, t) at e in let z : _≡_ {A = ℕ} 0 1 = cc in omega arith)
+      go false s false t e = absurd (let d : there ≡ behind = rw (side, s, t) at e in let z : _≡_ {A = ℕ} 0 1 = cc in omega arith)
+
+  side-in-front : (q p : Equation) → side order q p ≡ in-front → before order q p ≡ true
+  unfolding side
+  side-in-front q p = go (before order p q) refl (before order q p) refl
+    where
+      go : (s : Bool) → before order p q ≡ s → (t : Bool) → before order q p ≡ t → side order q p ≡ in-front → before order q p ≡ true
+      go true s t _ e = absurd (let d : behind ≡ in-front = rw (side, s) at e in let z : _≡_ {A = ℕ} 0 1 = cc in omega arith)
+      go false s true t e = t
+      go false s false t e = absurd (let d : there ≡ in-front = rw (side, s, t) at e in let z : _≡_ {A = ℕ} 0 1 = cc in omega arith)
+
   put-ascends : (q : Equation) (ps : List Equation) → Ascends order ps → Ascends order (with-question order q ps)
   unfolding with-question
   put-ascends q [] a = (λ p m. absurd (List·Memᴰ·not-nil m), tt)
-  put-ascends q (p ∷ ps) a = go (put-ascends q ps (a .1)) (before order p q) refl (before order q p) refl
+  put-ascends q (p ∷ ps) a = go (put-ascends q ps (a .1)) (side order q p) refl
     where
-      go : Ascends order (with-question order q ps) → (s : Bool) → before order p q ≡ s → (t : Bool) → before order q p ≡ t → Ascends order (with-question order q (p ∷ ps))
-      go below true s t _ =
-          rw (with-question, s) (λ x m. elim (put-only order total q x ps m) [ inl e ↦ ap (before order p) e ∙ s | inr n ↦ a .0 x n ], below)
-      go below false s true t =
-          rw (with-question, s, t)
-          (λ x m. elim (List·Memᴰ·cases-cons m) [ inl e ↦ ap (before order q) e ∙ t | inr n ↦ total .transitive q p x t (a .0 x n) ], a)
-      go below false s false t = rw (with-question, s, t) a
+      go : Ascends order (with-question order q ps) → (d : Side) → side order q p ≡ d → Ascends order (with-question order q (p ∷ ps))
+      go below behind i =
+          rw (with-question, i) (λ x m. elim (put-only order total q x ps m) [ inl e ↦ ap (before order p) e ∙ side-behind q p i | inr n ↦ a .0 x n ], below)
+      go below in-front i =
+          let first = side-in-front q p i in
+          rw (with-question, i)
+          (λ x m. elim (List·Memᴰ·cases-cons m) [ inl e ↦ ap (before order q) e ∙ first | inr n ↦ total .transitive q p x first (a .0 x n) ], a)
+      go below there i = rw (with-question, i) a
 
   one-ascends : (e : Equation) (qs : List Equation) → Ascends order qs → Ascends order (with-equation order e qs)
   unfolding with-equation
-  one-ascends e qs a = go (simplify e) refl
+  one-ascends e qs a = go (remaining e) refl
     where
-      go : (g : Guard) → simplify e ≡ g → Ascends order (with-equation order e qs)
-      go Never i = rw (with-equation, i) a
-      go Always i = rw (with-equation, i) a
-      go (Question q) i = rw (with-equation, i) (put-ascends q qs a)
+      go : (r : Option Equation) → remaining e ≡ r → Ascends order (with-equation order e qs)
+      go none i = rw (with-equation, i) a
+      go (some q) i = rw (with-equation, i) (put-ascends q qs a)
 
   collected-ascends : (qs es : List Equation) → Ascends order qs → Ascends order (collected order qs es)
   unfolding collected

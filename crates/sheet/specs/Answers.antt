@@ -6,6 +6,8 @@ use Rattle.normal_form.specs.declared.answer.CheckAnswer.{CheckAnswer}
 use Rattle.normal_form.specs.CheckAnswer.{checked-number, checked-result}
 use Rattle.operations.specs.declared.answer.Built.{Built}
 use Rattle.operations.specs.Built.{built-number, built-result}
+use Rattle.raw_lists.specs.declared.answer.RawOpened.{RawOpened}
+use Rattle.raw_lists.specs.RawOpened.{raw-number}
 use Rattle.sheet.specs.declared.answers.Answer.{Answer}
 use Rattle.reading.specs.declared.answer.Read.{Read}
 use Rattle.reading.specs.Read.{read-number, read-result}
@@ -22,6 +24,9 @@ answer-with number result = record { number = number; result = result }
 -- "Open and example give result 0 on success"
 abbrev pub opened-answer : Opened → Answer
 opened-answer o = answer-with (open-number o) 0
+
+abbrev pub raw-opened-answer : RawOpened → Answer
+raw-opened-answer o = answer-with (raw-number o) 0
 
 abbrev pub example-answer : Example → Answer
 example-answer e = answer-with (example-number e) 0

@@ -9,6 +9,8 @@ use normal_form::checked_result;
 use operations::Built;
 use operations::built_number;
 use operations::built_result;
+use raw_lists::RawOpened;
+use raw_lists::raw_number;
 use reading::Read;
 use reading::read_number;
 use reading::read_result;
@@ -34,6 +36,16 @@ pub fn opened_answer(o: Opened) -> Answer
 {
     Answer {
         number: open_number(o),
+        result: 0,
+    }
+}
+
+// The answer of open with a raw list, which names no result.
+pub fn raw_opened_answer(o: RawOpened) -> Answer
+    ensures { λ r. ⌜ r ≡ spec.raw-opened-answer o ⌝ }
+{
+    Answer {
+        number: raw_number(o),
         result: 0,
     }
 }

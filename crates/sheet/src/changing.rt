@@ -1,6 +1,7 @@
 // The operations that may change a store, from C.
 ghost use mathlib.Core.Path.{_≡_};
 ghost use Rattle.operations.specs.Operations as operation;
+ghost use Rattle.raw_lists.specs.OpenRaw.{open-raw};
 ghost use Rattle.sheet.specs.Answered.{answered};
 ghost use Rattle.sheet.specs.Answers as spec;
 ghost use Rattle.store.specs.Open.{open-store};
@@ -9,10 +10,12 @@ ghost use Rattle.terms.specs.Limits as limit;
 use crate::answers::Answer;
 use crate::answers::built_answer;
 use crate::answers::opened_answer;
+use crate::answers::raw_opened_answer;
 use building::build;
 use building::choose;
 use building::join;
 use building::negate;
+use raw_lists::open_raw;
 use store::open;
 
 // Opens a store for n fields and a list of questions in the order that a number names.
@@ -22,6 +25,15 @@ pub extern "C" fn sheet_open(n: u32, order: u32, list: &[u32], store: &mut [u32]
         ≡ answered spec.opened-answer (open-store limit.store-limits n order (now (list .entry)) (now (store .entry))) ⌝ }
 {
     opened_answer(open(n, order, list, store))
+}
+
+// Opens a store for n fields and a list of equations as they come, sorted into the order that a number names.
+#[no_mangle]
+pub extern "C" fn sheet_open_raw(n: u32, order: u32, raw: &[u32], store: &mut [u32]) -> Answer
+    ensures { λ r. ⌜ outcome r (now (store .exit))
+        ≡ answered spec.raw-opened-answer (open-raw limit.store-limits n order (now (raw .entry)) (now (store .entry))) ⌝ }
+{
+    raw_opened_answer(open_raw(n, order, raw, store))
 }
 
 // Adds the diagram of a rule table.

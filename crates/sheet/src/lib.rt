@@ -17,6 +17,7 @@ pub use changing::sheet_choose;
 pub use changing::sheet_join;
 pub use changing::sheet_negate;
 pub use changing::sheet_open;
+pub use changing::sheet_open_raw;
 pub use diagrams::sheet_check_normal_form;
 pub use equations::sheet_simplify;
 pub use logging::sheet_logger_build;
