@@ -16,8 +16,7 @@ use Rattle.operations.proofs.HandleLaw.{kept-after, kept-law}
 module _ (limits : Limits) (b : Books) (o : Opening) where
   -- "On refusal ... all lent words are unchanged.": an opening that is refused is a call that leaves the store, and the ledger, as it is
   pub refused-opening-leaves : opened-by limits o (b .words) .answer ≢ 0 → after-step limits b (reopen o) ≡ b
-  refused-opening-leaves n =
-      simp (ne-eqb (opened-by limits o (b .words) .answer) 0 n) (λ i. record { words = refused-leaves limits (b .words) o n i; ledger = b .ledger })
+  refused-opening-leaves n = simp (ne-eqb (opened-by limits o (b .words) .answer) 0 n, refused-leaves limits (b .words) o n)
 
   -- "It starts with the pairs 0, never and 1, always.": and so does an opening that is accepted
   pub accepted-opening-begins : opened-by limits o (b .words) .answer ≡ 0 → after-step limits b (reopen o) ≡ first-books (opened-by limits o (b .words) .words)

@@ -22,9 +22,9 @@ unfolding remaining
 remains-only e q = go (simplify e) refl
   where
     go : (g : Guard) → simplify e ≡ g → remaining e ≡ some q → simplify e ≡ Question q
-    go Never i r = absurd (let d : none ≡ some q = rw (remaining, i) at r in let z : _≡_ {A = ℕ} 0 1 = cc in omega arith)
-    go Always i r = absurd (let d : none ≡ some q = rw (remaining, i) at r in let z : _≡_ {A = ℕ} 0 1 = cc in omega arith)
-    go (Question p) i r = let d : some p ≡ some q = rw (remaining, i) at r in i ∙ ap Question (cc)
+    go Never i r = absurd (let d = rw (remaining, i) at r in let z : _≡_ {A = ℕ} 0 1 = cc in omega arith)
+    go Always i r = absurd (let d = rw (remaining, i) at r in let z : _≡_ {A = ℕ} 0 1 = cc in omega arith)
+    go (Question p) i r = let d = rw (remaining, i) at r in i ∙ ap Question (cc)
 
 remains-all : (e q : Equation) → simplify e ≡ Question q → remaining e ≡ some q
 unfolding remaining
@@ -38,8 +38,8 @@ module _ (order : Order) (total : StrictTotal (before order)) where
   side-there q p = go (before order p q) refl (before order q p) refl
     where
       go : (s : Bool) → before order p q ≡ s → (t : Bool) → before order q p ≡ t → side order q p ≡ there → p ≡ q
-      go true s t _ e = absurd (let d : behind ≡ there = rw (side, s) at e in let z : _≡_ {A = ℕ} 0 1 = cc in omega arith)
-      go false s true t e = absurd (let d : in-front ≡ there = rw (side, s, t) at e in let z : _≡_ {A = ℕ} 0 1 = cc in omega arith)
+      go true s t _ e = absurd (let d = rw (side, s) at e in let z : _≡_ {A = ℕ} 0 1 = cc in omega arith)
+      go false s true t e = absurd (let d = rw (side, s, t) at e in let z : _≡_ {A = ℕ} 0 1 = cc in omega arith)
       go false s false t e = neither-before total p q s t
 
   module _ (q x : Equation) where

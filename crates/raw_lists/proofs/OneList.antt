@@ -22,17 +22,17 @@ module _ (order : Order) (total : StrictTotal (before order)) where
     where
       go : (s : Bool) → before order p q ≡ s → (t : Bool) → before order q p ≡ t → side order q p ≡ behind → before order p q ≡ true
       go true s t _ e = s
-      go false s true t e = absurd (let d : in-front ≡ behind = rw (side, s, t) at e in let z : _≡_ {A = ℕ} 0 1 = cc in omega arith)
-      go false s false t e = absurd (let d : there ≡ behind = rw (side, s, t) at e in let z : _≡_ {A = ℕ} 0 1 = cc in omega arith)
+      go false s true t e = absurd (let d = rw (side, s, t) at e in let z : _≡_ {A = ℕ} 0 1 = cc in omega arith)
+      go false s false t e = absurd (let d = rw (side, s, t) at e in let z : _≡_ {A = ℕ} 0 1 = cc in omega arith)
 
   side-in-front : (q p : Equation) → side order q p ≡ in-front → before order q p ≡ true
   unfolding side
   side-in-front q p = go (before order p q) refl (before order q p) refl
     where
       go : (s : Bool) → before order p q ≡ s → (t : Bool) → before order q p ≡ t → side order q p ≡ in-front → before order q p ≡ true
-      go true s t _ e = absurd (let d : behind ≡ in-front = rw (side, s) at e in let z : _≡_ {A = ℕ} 0 1 = cc in omega arith)
+      go true s t _ e = absurd (let d = rw (side, s) at e in let z : _≡_ {A = ℕ} 0 1 = cc in omega arith)
       go false s true t e = t
-      go false s false t e = absurd (let d : there ≡ in-front = rw (side, s, t) at e in let z : _≡_ {A = ℕ} 0 1 = cc in omega arith)
+      go false s false t e = absurd (let d = rw (side, s, t) at e in let z : _≡_ {A = ℕ} 0 1 = cc in omega arith)
 
   put-ascends : (q : Equation) (ps : List Equation) → Ascends order ps → Ascends order (with-question order q ps)
   unfolding with-question

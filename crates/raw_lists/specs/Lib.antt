@@ -6,4 +6,3 @@ pub mod RawOpened
 pub mod OpenRaw
 pub mod OpensResulting
 pub mod OnPaper
-pub mod Needs

@@ -15,7 +15,7 @@ use building::build;
 use building::choose;
 use building::join;
 use building::negate;
-use raw_lists::open_raw;
+use collecting::open_raw;
 use store::open;
 
 // Opens a store for n fields and a list of questions in the order that a number names.
