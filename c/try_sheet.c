@@ -415,6 +415,7 @@ static void orders_in_a_store(void)
 static void null_stores(void)
 {
     answer("null open", sheet_open(0, 0, NULL, 0, NULL, 0), 21, 0);
+    answer("null open raw", sheet_open_raw(0, 0, NULL, 0, NULL, 0), 21, 0);
     answer("null logger's open", sheet_logger_open(0, 0, NULL, 0, NULL, 0), 21, 0);
     not_sound("null store", NULL, 0);
 }
@@ -553,6 +554,77 @@ static void logger_three_fields(void)
     answer("xi verdict", sheet_verdict(store, LENGTH(store), 5), 0, 2);
 }
 
+/* Document 02 (i). Case 6's list as it stood on paper: 1 = 2, S(3) = S(1), 2 = 3, 2 = 1, 1 = 1 and S(2) = 0. */
+static void raw_three_fields(void)
+{
+    uint32_t store[22];
+    fill(store, LENGTH(store));
+    answer("i open raw, 1 2, 35 33, 2 3, 2 1, 1 1, 34 0",
+           sheet_open_raw(3, 0, WORDS(1, 2, 35, 33, 2, 3, 2, 1, 1, 1, 34, 0), store, LENGTH(store)), 0, 0);
+    words(store, WORDS(3, 3, 0, 0, 2, 1, 3, 1, 3, 2, 0, 0, 0, 0, 0, 0, 0, 0, 0, 0, 0, 0));
+    answer("i build 3 = 2", sheet_build(store, LENGTH(store), WORDS(2, 3, 2, 0)), 0, 5);
+    words(store, WORDS(3, 3, 4, 0, 2, 1, 3, 1, 3, 2, 2, 1, 0, 3, 1, 0, 2, 0, 3, 1, 2, 4));
+}
+
+/* 3 = 2 and 1 = S(3), sorted into the order that is given; doubles count once. */
+static void raw_orders(void)
+{
+    uint32_t store[8];
+    fill(store, LENGTH(store));
+    answer("i open raw in order 0, 3 2, 1 35", sheet_open_raw(3, 0, WORDS(3, 2, 1, 35), store, LENGTH(store)), 0, 0);
+    words(store, WORDS(3, 2, 0, 0, 35, 1, 3, 2));
+    answer("i open raw in order 1, 3 2, 1 35", sheet_open_raw(3, 1, WORDS(3, 2, 1, 35), store, LENGTH(store)), 0, 0);
+    words(store, WORDS(3, 2, 0, 1, 3, 2, 35, 1));
+    answer("i open raw, 1 2, 2 1 in 5 words", sheet_open_raw(3, 0, WORDS(1, 2, 2, 1), store, 5), 21, 0);
+    words(store, WORDS(3, 2, 0, 1, 3, 2, 35, 1));
+    answer("i open raw, 1 2, 2 1 in 6 words", sheet_open_raw(3, 0, WORDS(1, 2, 2, 1), store, 6), 0, 0);
+    words(store, WORDS(3, 1, 0, 0, 2, 1, 35, 1));
+}
+
+/* Words that are all 1, so that two of them are 1 = 1. */
+static void ones(uint32_t *raw, size_t length)
+{
+    for (size_t i = 0; i < length; i++) {
+        raw[i] = 1;
+    }
+}
+
+/* The refusals in turn, on words that stay as they are. */
+static void raw_refused(void)
+{
+    uint32_t raw[131];
+    uint32_t store[4];
+    fill(store, LENGTH(store));
+    ones(raw, LENGTH(raw));
+    answer("i open raw, 17 fields, order 2, one word", sheet_open_raw(17, 2, raw, 1, store, LENGTH(store)), 11, 0);
+    answer("i open raw, order 2, one word", sheet_open_raw(1, 2, raw, 1, store, LENGTH(store)), 18, 0);
+    answer("i open raw, 131 words", sheet_open_raw(1, 0, raw, 131, store, LENGTH(store)), 12, 0);
+    answer("i open raw, 65 equations", sheet_open_raw(1, 0, raw, 130, store, LENGTH(store)), 17, 0);
+    answer("i open raw, 64 equations of a field above n", sheet_open_raw(0, 0, raw, 128, store, LENGTH(store)), 14, 0);
+    answer("i open raw, S1024(1) = S1024(1)", sheet_open_raw(1, 0, WORDS(32769, 32769), store, LENGTH(store)), 14, 0);
+    for (uint32_t i = 0; i < 21; i++) {
+        raw[2 * i + 1] = 32 * i;
+    }
+    raw[42] = 2;
+    answer("i open raw, 1 = 0 to 1 = S20(0)", sheet_open_raw(1, 0, raw, 42, store, LENGTH(store)), 13, 0);
+    answer("i open raw, 1 = 0 to 1 = S20(0) and 2 = 1", sheet_open_raw(1, 0, raw, 44, store, LENGTH(store)), 14, 0);
+    answer("i open raw, 1 = 0 in four words", sheet_open_raw(1, 0, raw, 2, store, LENGTH(store)), 21, 0);
+    words(store, WORDS(7, 7, 7, 7));
+}
+
+/* Always and never leave no question, 64 times too. */
+static void raw_dropped(void)
+{
+    uint32_t raw[128];
+    uint32_t store[4];
+    fill(store, LENGTH(store));
+    ones(raw, LENGTH(raw));
+    answer("i open raw, S1023(1) = S1023(1) and S(1) = 0", sheet_open_raw(1, 1, WORDS(32737, 32737, 33, 0), store, LENGTH(store)), 0, 0);
+    words(store, WORDS(1, 0, 0, 1));
+    answer("i open raw, 64 times 1 = 1", sheet_open_raw(1, 0, raw, LENGTH(raw), store, LENGTH(store)), 0, 0);
+    words(store, WORDS(1, 0, 0, 0));
+}
+
 /* The rule always, and no words by NULL, in a store that is sound for the institute and too large for the logger. */
 static void too_large(const char *which, uint32_t *store, size_t length)
 {
@@ -621,6 +693,7 @@ static void null_slices(void)
 {
     uint32_t store[6];
     answer("null list", sheet_open(1, 0, NULL, 0, store, LENGTH(store)), 0, 0);
+    answer("null raw list", sheet_open_raw(1, 0, NULL, 0, store, LENGTH(store)), 0, 0);
     answer("null rule", sheet_build(store, LENGTH(store), NULL, 0), 31, 0);
     answer("null rule of the logger", sheet_logger_build(store, LENGTH(store), NULL, 0), 31, 0);
     answer("null example of one field", sheet_example(store, LENGTH(store), 1, NULL, 0), 23, 0);
@@ -649,6 +722,10 @@ int main(void)
     orders_built();
     case_6_in_order_1();
     orders_in_a_store();
+    raw_three_fields();
+    raw_orders();
+    raw_refused();
+    raw_dropped();
     logger_fields();
     logger_questions();
     logger_three_fields();

@@ -1,4 +1,4 @@
-/* Sighting-sheet rules as decision diagrams: the thirteen operations, from C.
+/* Sighting-sheet rules as decision diagrams: the fourteen operations, from C.
 
    Link libsheet.a, which `rt staticlib sheet` writes (x86-64 Linux). The library calls nothing but memcpy and memset, keeps nothing from one
    call to the next, and has no memory of its own: it reads and writes what is lent, and its stack. A call takes less than 65,536 bytes of
@@ -13,6 +13,11 @@
    The questions ascend strictly in the store's order. Order 0 compares left field, right field, left steps, right steps; order 1, that of the
    older books, compares left field, left steps, right field, right steps; the first that differs decides. A list may ascend in both orders, so
    the order cannot be told from the list: word 3 alone says it.
+
+   sheet_open takes the list as the store has it. sheet_open_raw takes it as it stands on paper, up to 64 equations, turned round, with steps on
+   both sides, doubled and in whatever order: it simplifies each, drops always and never, leaves doubles out and sorts the rest. It is proved
+   that the list it writes has exactly the questions that the equations simplify to, and is the only list with them that ascends in the order;
+   and that sheet_open, given that list, is accepted and leaves the same words.
 
    A store has room for as many entries as its words give, up to a limit. The deck logger has a smaller book, with its own open and build:
 
@@ -47,10 +52,11 @@
      14  a field is above n, or steps above 1,023       34  unknown kind, nonzero unused column, reference not lower
      15  not a simplified question                      35  a field is above n, or steps above 1,023
      16  not strictly above the one before, by order    36  an equation neither always nor never nor on the list
-     18  the order is neither 0 nor 1                   41  a handle is at or above used + 2
-     21  the store is shorter than 4 + 2q words         51  used plus the new entries exceeds the store's room
-     22  the store is not sound (more on it below)      52  nothing satisfies the handle
-     23  the slice has the wrong length                 53  writing back would take more than 256 rows
+     17  more than 64 raw equations                     41  a handle is at or above used + 2
+     18  the order is neither 0 nor 1                   51  used plus the new entries exceeds the store's room
+     21  the store is shorter than 4 + 2q words         52  nothing satisfies the handle
+     22  the store is not sound (more on it below)      53  writing back would take more than 256 rows
+     23  the slice has the wrong length
      81  a table's words are no multiple of four, it has more than 4,096 entries, or the root is at or above entries + 2
      82  a field of a table is above 16, steps above 4,095, or an equation not simplified
      83  a handle of a table is not lower than its entry's own
@@ -101,6 +107,13 @@ sheet_simplified sheet_simplify(uint32_t a, uint32_t b);
    entries, the order, the list, and zeros in all the rest. The result is 0.
    Refusals: 11, 18, 12, 13, then question by question 14, 15, 16, then 21. */
 sheet_answer sheet_open(uint32_t n, uint32_t order, const uint32_t *list, size_t list_len, uint32_t *store, size_t store_len);
+
+/* Opens a store for n fields and a list of equations as they come, two term words each: simplifies each, drops always and never, leaves doubles
+   out, sorts the rest into the order, and writes n, the number q of questions that remain, no entries, the order, these questions, and zeros in
+   all the rest. q is not known before the call, and is word 1 after it; 4 + 2 x (equations) words are always enough. The result is 0.
+   Refusals: 11, 18, 12, 17 (more than 64 equations, all counted), then equation by equation 14 (of its terms as they are given, though it may
+   be always or never), then 13 (more than 20 questions remain), then 21 (of the q that remain). 15 and 16 are not given. */
+sheet_answer sheet_open_raw(uint32_t n, uint32_t order, const uint32_t *list, size_t list_len, uint32_t *store, size_t store_len);
 
 /* Adds the finished diagram of a rule. The result is its handle.
    Refusals: 22, 31, 32, 33, then row by row 34, 35, 36, then 51. */

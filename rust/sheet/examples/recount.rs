@@ -8,7 +8,7 @@ fn main() -> Result<(), sheet::Refusal> {
     let no_calves = calves.equals(ZERO);
     let same = recount.equals(adults);
     let one_more = recount.equals(adults + 1);
-    let mut store = Store::open(3, Order::FieldsFirst, [no_adults, no_calves, same, one_more], 100)?;
+    let mut store = Store::open_raw(3, Order::FieldsFirst, [same, one_more, no_adults, no_calves], 100)?;
 
     // The recount is the first count or one more. No adults, no calves.
     let close = store.build(&(Rule::from(same) | one_more.into()))?;

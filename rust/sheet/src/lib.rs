@@ -1,8 +1,9 @@
 //! Rules over counts as decision diagrams with one handle per meaning.
 //!
 //! A sheet has up to 16 fields, each with a count. A rule is a Boolean combination of equations between fields, numbers and fields plus
-//! steps. A [`Store`] is opened for a list of questions, which stand in one of two [orders](Order), and holds the diagrams of rules over
-//! these questions: two rules have the same [`Handle`] exactly if they agree on every sheet.
+//! steps. A [`Store`] is opened for a list of questions, which stand in one of two [orders](Order), or for equations
+//! [as they come](Store::open_raw), and holds the diagrams of rules over these questions: two rules have the same [`Handle`] exactly if
+//! they agree on every sheet.
 //!
 //! The work is done by a library that is proved to do what it promises; this crate gives it Rust's types. What C's callers have to
 //! see to (that lent memory is there, is as long as they say, and doesn't overlap) can't go wrong here. The library keeps nothing between

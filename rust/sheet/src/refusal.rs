@@ -21,7 +21,7 @@ pub enum Refusal {
     TooManyFields = 11,
     /// 12: an odd number of list words.
     OddList = 12,
-    /// 13: more than 20 questions, in a [`LoggerStore`](crate::LoggerStore) more than 8.
+    /// 13: more than 20 questions, of raw equations more than 20 that remain, in a [`LoggerStore`](crate::LoggerStore) more than 8.
     TooManyQuestions = 13,
     /// 14: a field above n or steps above 1,023 in the list.
     ListTerm = 14,
@@ -29,8 +29,11 @@ pub enum Refusal {
     NotSimplified = 15,
     /// 16: a question that isn't strictly above the one before it in the list's order.
     NotAscending = 16,
+    /// 17: more than 64 equations for [`Store::open_raw`](crate::Store::open_raw), doubles and what is always or never among them.
+    TooManyEquations = 17,
     /// 18: an order that is neither 0 nor 1. An [`Order`](crate::Order) is always one of them, so only
-    /// [`words::open`](crate::words::open) and [`words::logger_open`](crate::words::logger_open) can give this.
+    /// [`words::open`](crate::words::open), [`words::open_raw`](crate::words::open_raw) and
+    /// [`words::logger_open`](crate::words::logger_open) can give this.
     UnknownOrder = 18,
     /// 21: a store shorter than its heading and list.
     StoreTooShort = 21,
@@ -75,13 +78,14 @@ pub enum Refusal {
 
 impl Refusal {
     /// Every refusal, in the order of the numbers.
-    pub const ALL: [Refusal; 26] = [
+    pub const ALL: [Refusal; 27] = [
         Refusal::TooManyFields,
         Refusal::OddList,
         Refusal::TooManyQuestions,
         Refusal::ListTerm,
         Refusal::NotSimplified,
         Refusal::NotAscending,
+        Refusal::TooManyEquations,
         Refusal::UnknownOrder,
         Refusal::StoreTooShort,
         Refusal::NotSound,
@@ -134,6 +138,9 @@ impl fmt::Display for Refusal {
             Refusal::NotAscending => {
                 "the list is not in its order: each question must stand above the one before it, by left field, right field, left \
                  steps, right steps in order 0, and by left field, left steps, right field, right steps in order 1"
+            }
+            Refusal::TooManyEquations => {
+                "there are more than 64 equations to open a store for, doubles and those that are always or never true among them"
             }
             Refusal::UnknownOrder => {
                 "the order is neither 0 (by left field, right field, left steps, right steps) nor 1 (by left field, left steps, right \

@@ -86,15 +86,15 @@ const HEADING: usize = 4;
 /// The most words of a rule that is written back: 256 rows of four.
 const MOST_RULE_WORDS: usize = 1024;
 
-/// One of the library's functions that open a store: the institute's or the deck logger's.
+/// One of the library's functions that open a store: with a list or with a raw one, or the deck logger's.
 type Opening = fn(u32, u32, &[u32], &mut [u32]) -> Answer;
 /// One of the library's functions that build a rule.
 type Building = fn(&mut [u32], &[u32]) -> Answer;
 
 impl Store {
     /// Opens a store for sheets of `fields` fields and a list of up to 20 questions, which stand in the order given, with room for `room`
-    /// entries, of which 4,096 are the most that can be used. Questions that come in any order are put into theirs by
-    /// [`Order::arrange`].
+    /// entries, of which 4,096 are the most that can be used. Equations that come in any form and any order are taken by
+    /// [`Store::open_raw`].
     pub fn open<Q>(fields: u32, order: Order, questions: Q, room: usize) -> Result<Store, Refusal>
     where
         Q: IntoIterator,
@@ -103,19 +103,59 @@ impl Store {
         Store::open_by(words::open, fields, order, questions, room.min(Limits::INSTITUTE.entries))
     }
 
+    /// Opens a store for equations as they stand on paper, up to 64 of them, in any form and any order, some of them twice. Each is
+    /// simplified, what is always or never is dropped, doubles are left out, and the rest, up to 20 questions, is sorted into the order
+    /// given. There is room for `room` entries, of which 4,096 are the most that can be used.
+    ///
+    /// It is proved that the store's questions are exactly those that the equations simplify to, and that [`Store::open`] with these
+    /// questions gives the same store.
+    ///
+    /// ```
+    /// use sheet::{Field, Order, Refusal, Store};
+    ///
+    /// // 2 = 3; 1 + 1 = 2 + 1 and 1 = 2, which are one question; and 1 = 1, which is always true.
+    /// let equations = [
+    ///     Field(2).equals(Field(3)),
+    ///     (Field(1) + 1).equals(Field(2) + 1),
+    ///     Field(1).equals(Field(2)),
+    ///     Field(1).equals(Field(1)),
+    /// ];
+    /// let store = Store::open_raw(3, Order::FieldsFirst, equations, 10)?;
+    /// let questions: Vec<String> = store.questions().iter().map(ToString::to_string).collect();
+    /// assert_eq!(questions, ["f2 = f1", "f3 = f2"]);
+    /// assert_eq!(store.room(), 10);
+    /// assert_eq!(Store::open(3, Order::FieldsFirst, store.questions(), 10)?, store);
+    ///
+    /// // Opened as a list that is in order already, they are refused.
+    /// assert_eq!(Store::open(3, Order::FieldsFirst, equations, 10), Err(Refusal::NotSimplified));
+    /// # Ok::<(), Refusal>(())
+    /// ```
+    pub fn open_raw<E>(fields: u32, order: Order, equations: E, room: usize) -> Result<Store, Refusal>
+    where
+        E: IntoIterator,
+        E::Item: Into<Equation>,
+    {
+        let room = room.min(Limits::INSTITUTE.entries);
+        let mut store = Store::open_by(words::open_raw, fields, order, equations, room)?;
+        // The words were lent for as many questions as there were equations. Where fewer remain, they would be room for more entries.
+        store.words.truncate(store.entries_start() + 3 * room);
+        store.words.shrink_to_fit();
+        Ok(store)
+    }
+
     /// Opens a store by one of the library's openings, on as many words as `room` entries take.
-    pub(crate) fn open_by<Q>(
+    pub(crate) fn open_by<E>(
         opening: Opening,
         fields: u32,
         order: Order,
-        questions: Q,
+        equations: E,
         room: usize,
     ) -> Result<Store, Refusal>
     where
-        Q: IntoIterator,
-        Q::Item: Into<Equation>,
+        E: IntoIterator,
+        E::Item: Into<Equation>,
     {
-        let list: Vec<u32> = questions
+        let list: Vec<u32> = equations
             .into_iter()
             .map(Into::into)
             .flat_map(|Equation { left, right }| [left.word(), right.word()])

@@ -150,21 +150,16 @@ impl fmt::Display for Equation {
 /// A simplified equation that is true on some sheets and false on others.
 ///
 /// Questions have no order of their own, as there are two: an [`Order`](crate::Order) compares them, and arranges them as a store's list.
+/// Equations that are no questions yet, or stand in no order, are what [`Store::open_raw`](crate::Store::open_raw) takes.
 ///
 /// ```
-/// use sheet::{Field, Order, Question, Simplified, Store};
+/// use sheet::{Field, Order, Store};
 ///
-/// // Equations as they come, into a list that a store can be opened for.
+/// // Equations as they come, and the questions that a store has of them.
 /// let equations = [Field(2).equals(Field(3)), (Field(1) + 1).equals(Field(2) + 1), Field(1).equals(Field(2))];
-/// let mut questions: Vec<Question> = Vec::new();
-/// for equation in equations {
-///     if let Simplified::Question(question) = equation.simplify()? {
-///         questions.push(question);
-///     }
-/// }
-/// Order::FieldsFirst.arrange(&mut questions);
-/// let store = Store::open(3, Order::FieldsFirst, questions, 10)?;
+/// let store = Store::open_raw(3, Order::FieldsFirst, equations, 10)?;
 /// assert_eq!(store.as_words()[..8], [3, 2, 0, 0, 2, 1, 3, 2]);
+/// assert_eq!(store.questions()[0].to_string(), "f2 = f1");
 /// # Ok::<(), sheet::Refusal>(())
 /// ```
 #[derive(Clone, Copy, Debug, PartialEq, Eq, Hash)]

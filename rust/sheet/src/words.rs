@@ -1,4 +1,4 @@
-//! The thirteen operations on lent words, as C has them but with slices: no call can be given overlapping, dangling or wrongly measured memory.
+//! The fourteen operations on lent words, as C has them but with slices: no call can be given overlapping, dangling or wrongly measured memory.
 //!
 //! Every call is safe on any words whatever: the library is proved for all of them, and refuses what it can't work with. What the
 //! words and numbers mean stands at [`Store`](crate::Store), [`LoggerStore`](crate::LoggerStore), [`Order`](crate::Order),
@@ -61,6 +61,14 @@ mod c {
             store: *mut u32,
             store_len: usize,
         ) -> Answer;
+        pub fn sheet_open_raw(
+            n: u32,
+            order: u32,
+            list: *const u32,
+            list_len: usize,
+            store: *mut u32,
+            store_len: usize,
+        ) -> Answer;
         pub fn sheet_build(store: *mut u32, store_len: usize, rule: *const u32, rule_len: usize) -> Answer;
         pub fn sheet_logger_open(
             n: u32,
@@ -96,6 +104,22 @@ pub fn simplify(a: u32, b: u32) -> SimplifyAnswer {
 pub fn open(n: u32, order: u32, list: &[u32], store: &mut [u32]) -> Answer {
     // SAFETY: pointers and lengths are those of borrowed slices.
     unsafe { c::sheet_open(n, order, list.as_ptr(), list.len(), store.as_mut_ptr(), store.len()) }
+}
+
+/// Opens a store for n fields and a list of equations as they come, two term words each: they are simplified, what is always or never is
+/// dropped, doubles are left out, and the rest is sorted into the order.
+///
+/// ```
+/// use sheet::words;
+///
+/// // 1 = 2, S(2) = S(1) and 1 = 1 are one question, 2 = 1.
+/// let mut store = [7; 6];
+/// assert_eq!(words::open_raw(2, 0, &[1, 2, 34, 33, 1, 1], &mut store).number, 0);
+/// assert_eq!(store, [2, 1, 0, 0, 2, 1]);
+/// ```
+pub fn open_raw(n: u32, order: u32, raw: &[u32], store: &mut [u32]) -> Answer {
+    // SAFETY: pointers and lengths are those of borrowed slices.
+    unsafe { c::sheet_open_raw(n, order, raw.as_ptr(), raw.len(), store.as_mut_ptr(), store.len()) }
 }
 
 /// Adds the finished diagram of a rule table. The result is its handle.

@@ -27,6 +27,68 @@ fn opening_is_refused() {
     }
 }
 
+#[test]
+fn equations_are_taken_as_they_come() {
+    // Case 6's list on paper: 1 = 2, S(3) = S(1), 2 = 3, 2 = 1, 1 = 1 and S(2) = 0.
+    let equations = [
+        Field(1).equals(Field(2)),
+        (Field(3) + 1).equals(Field(1) + 1),
+        Field(2).equals(Field(3)),
+        Field(2).equals(Field(1)),
+        Field(1).equals(Field(1)),
+        (Field(2) + 1).equals(ZERO),
+    ];
+    for order in Order::ALL {
+        let store = Store::open_raw(3, order, equations, 4).unwrap();
+        assert_eq!(store, Store::open(3, order, pairs(), 4).unwrap());
+        assert_eq!((store.room(), store.as_words().len()), (4, 22));
+        for listed in Order::ALL {
+            let store = Store::open_raw(3, order, told_apart(listed), 2).unwrap();
+            assert_eq!(store, Store::open(3, order, told_apart(order), 2).unwrap());
+        }
+    }
+}
+
+#[test]
+fn what_remains_of_raw_equations_may_be_nothing() {
+    let always = [(Field(1) + 1_023).equals(Field(1) + 1_023); 64];
+    let store = Store::open_raw(1, Order::LeftFirst, always, 0).unwrap();
+    assert_eq!(store.as_words(), [1, 0, 0, 1]);
+    let none: [Question; 0] = [];
+    assert_eq!(Store::open_raw(1, Order::LeftFirst, none, 0).unwrap(), store);
+    assert_eq!(Store::open_raw(1, Order::LeftFirst, always, 7).unwrap().room(), 7);
+    assert_eq!(Store::open_raw(1, Order::LeftFirst, always, usize::MAX).unwrap().room(), Limits::INSTITUTE.entries);
+}
+
+#[test]
+fn a_raw_opening_is_refused() {
+    for order in Order::ALL {
+        let refusal = |fields: u32, equations: &[Equation]| {
+            Store::open_raw(fields, order, equations.iter().copied(), 1).unwrap_err()
+        };
+        let one = Field(1).equals(Field(1));
+        assert_eq!(refusal(17, &[one; 65]), Refusal::TooManyFields);
+        assert_eq!(refusal(0, &[one; 65]), Refusal::TooManyEquations);
+        assert_eq!(refusal(0, &[one; 64]), Refusal::ListTerm);
+        assert_eq!(refusal(1, &[(Field(1) + 1_024).equals(Field(1) + 1_024)]), Refusal::ListTerm);
+        assert_eq!(refusal(1, &numbers(21)), Refusal::TooManyQuestions);
+        assert_eq!(refusal(1, &[numbers(21), vec![Field(2).equals(Field(1))]].concat()), Refusal::ListTerm);
+    }
+    assert_eq!(words::open_raw(1, 0, &[1], &mut [0; 6]).number, Refusal::OddList.number());
+    assert_eq!(words::open_raw(1, 0, &[1, 0], &mut [0; 5]).number, Refusal::StoreTooShort.number());
+    assert_eq!(words::open_raw(1, 2, &[1], &mut [0; 5]).number, Refusal::UnknownOrder.number());
+}
+
+#[test]
+fn twenty_questions_of_sixty_equations_open() {
+    let mut equations = [numbers(20), numbers(20), numbers(20)].concat();
+    equations.reverse();
+    for order in Order::ALL {
+        let store = Store::open_raw(1, order, equations.clone(), 3).unwrap();
+        assert_eq!(store, Store::open(1, order, numbers(20), 3).unwrap());
+    }
+}
+
 /// S(3) = 1 and 3 = 2, as each order lists them.
 fn told_apart(order: Order) -> [Equation; 2] {
     let [one_less, same] = [(Field(3) + 1).equals(Field(1)), Field(3).equals(Field(2))];
