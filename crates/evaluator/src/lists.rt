@@ -37,7 +37,7 @@ fn middle_of(order: u32, left: u32, right: u32) -> u32
 }
 
 // Where a question stands in an order: left field, the two numbers between, and right steps as the digits of one number.
-fn place_of(order: u32, left: u32, right: u32) -> u32 {
+pub fn place_of(order: u32, left: u32, right: u32) -> u32 {
     let middle = middle_of(order, left, right);
     (left % 32 * (32 * STEP_COUNTS) + middle) * STEP_COUNTS + right / 32 % STEP_COUNTS
 }

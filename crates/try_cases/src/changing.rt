@@ -12,6 +12,7 @@ use evaluator::Limits;
 use evaluator::Row;
 use evaluator::expect_added;
 use evaluator::expect_opened;
+use evaluator::expect_raw_opened;
 use evaluator::knows;
 use evaluator::limits_of;
 use evaluator::part;
@@ -24,23 +25,25 @@ use sheet::sheet_logger_build;
 use sheet::sheet_logger_open;
 use sheet::sheet_negate;
 use sheet::sheet_open;
+use sheet::sheet_open_raw;
 
-// The kind of row that a call stands for, by the first letter of its name; 0 for opening.
-fn kind_of(letter: u8) -> u32 {
+// The kind of row that a call stands for, by the first letter of its name; 0 for opening, and 1 for opening with a raw list.
+fn kind_of(name: Name) -> u32 {
+    let letter = name.letter;
     match letter {
         b'b' => 2,
         b'n' => 3,
         b'j' => 4,
         b'c' => 5,
-        _ => 0,
+        _ => name.raw as u32,
     }
 }
 
 // The handles are the first numbers, and for opening the number of fields and the order.
-fn call_of(letter: u8, numbers: Numbers) -> Row {
+fn call_of(name: Name, numbers: Numbers) -> Row {
     let words = numbers.words;
     Row {
-        kind: kind_of(letter),
+        kind: kind_of(name),
         a: words[0],
         b: words[1],
         c: words[2],
@@ -57,6 +60,7 @@ fn perform(store: &mut [u32], call: Row, given: &[u32]) -> Answer {
     let kind = call.kind;
     match kind {
         0 => sheet_open(call.a, call.b, list_of(given), store),
+        1 => sheet_open_raw(call.a, call.b, list_of(given), store),
         2 => sheet_build(store, given),
         3 => sheet_negate(store, call.a),
         4 => sheet_join(store, call.a, call.b),
@@ -81,6 +85,20 @@ fn perform_either(logger: bool, store: &mut [u32], call: Row, given: &[u32]) -> 
     }
 }
 
+// The number of an opening: with a raw list by the institute alone.
+fn expect_opening(
+    limits: Limits,
+    store: &[u32],
+    call: Row,
+    list: &[u32],
+    after: &mut [u32],
+) -> u32 {
+    if call.kind == 1 {
+        return expect_raw_opened(call.a, call.b, list, store, after);
+    }
+    expect_opened(limits, call.a, call.b, list, store, after)
+}
+
 fn expect(
     limits: Limits,
     store: &[u32],
@@ -88,11 +106,11 @@ fn expect(
     given: &[u32],
     after: &mut [u32],
 ) -> evaluator::Answer {
-    if call.kind != 0 {
+    if call.kind > 1 {
         return expect_added(limits, store, call, given, after);
     }
     evaluator::Answer {
-        number: expect_opened(limits, call.a, call.b, list_of(given), store, after),
+        number: expect_opening(limits, store, call, list_of(given), after),
         result: 0,
     }
 }
@@ -101,7 +119,7 @@ fn expect(
 fn make(logger: bool, store: &mut [u32], call: Row, given: &[u32]) {
     let mut after = [0u32; MOST_NUMBERS];
     let expected = expect(limits_of(logger), store, call, given, &mut after);
-    let known = (call.kind == 0) | knows(store, expected.number);
+    let known = (call.kind < 2) | knows(store, expected.number);
     let found = perform_either(logger, store, call, given);
     answer(found);
     words(store);
@@ -128,7 +146,7 @@ fn make_always(logger: bool, store: &mut [u32], call: Row, rows: u32) {
 // A call with what stands after the bar, or with so many rows of kind 1.
 fn make_given(store: &mut [u32], name: Name, numbers: Numbers) {
     let given = numbers.words;
-    let call = call_of(name.letter, numbers);
+    let call = call_of(name, numbers);
     if numbers.bar == NO_BAR {
         make_always(name.logger, store, call, given[0]);
     } else {

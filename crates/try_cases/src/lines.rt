@@ -23,7 +23,7 @@ pub fn byte_at(text: &[u8], place: usize) -> u8 {
 }
 
 // The most numbers of a line, and the most words of a store.
-pub const MOST_NUMBERS: usize = 128;
+pub const MOST_NUMBERS: usize = 136;
 
 // The numbers of a line, how many there are, and how many stand before the bar; NO_BAR if there is none.
 pub struct Numbers {

@@ -13,7 +13,7 @@ mod printing;
 use libc::STDIN_FILENO;
 
 fn main() {
-    let mut text = [0u8; 16384];
+    let mut text = [0u8; 20480];
     let end = io::read_full(STDIN_FILENO, &mut text);
     calls::run(&text[..end]);
 }

@@ -3,10 +3,12 @@ ghost use Prim.Native.Nat.{_≤_};
 ghost use lib.ListN.{length};
 use crate::lines::byte_at;
 
-// The first letter of what is called, and whether it is the logger's own, which a line names as `logger_open` or `logger_build`.
+// The first letter of what is called; whether it is the logger's own, which a line names as `logger_open` or `logger_build`; and whether it is opening with a
+// raw list, which a line names as `open_raw`: no other name has a line as its fifth byte.
 pub struct Name {
     pub letter: u8,
     pub logger: bool,
+    pub raw: bool,
 }
 
 // The name after a line's first space; a logger's call has its own letter after `logger_`.
@@ -18,5 +20,6 @@ pub fn name_of(line: &[u8], space: usize) -> Name
     Name {
         letter: byte_at(line, place),
         logger: logger,
+        raw: byte_at(line, space + 5) == b'_',
     }
 }

@@ -16,6 +16,7 @@ mod opening;
 mod orders;
 mod printing;
 mod raising;
+mod raw_lists;
 mod rounds;
 mod rules;
 mod run;
@@ -29,9 +30,11 @@ use crate::limits::try_limits;
 use crate::logger_limits::try_logger_limits;
 use crate::logging::logger_rounds;
 use crate::printing::print_part;
+use crate::printing::print_raw;
 use crate::printing::print_refusals;
 use crate::printing::print_sides;
 use crate::printing::print_stores;
+use crate::raw_lists::raw_rounds;
 use crate::rounds::list_rounds;
 use crate::rounds::store_rounds;
 use crate::run::Run;
@@ -60,6 +63,14 @@ fn run_logger(mut run: Run) -> Run {
     print_part(try_logger_limits(run), b"limits of the logger")
 }
 
+// Raw lists.
+fn run_raw(mut run: Run) -> Run {
+    let met = raw_rounds(run);
+    run = print_part(met.run, b"raw lists");
+    print_raw(met);
+    run
+}
+
 fn main() {
-    print_refusals(run_logger(run_made(run_generated(begun()))));
+    print_refusals(run_raw(run_logger(run_made(run_generated(begun())))));
 }

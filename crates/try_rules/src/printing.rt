@@ -1,5 +1,6 @@
 // What a run came to: the comparisons of each part, the generated stores, and at the end the refusals that were met.
 use crate::both::Both;
+use crate::raw_lists::RawRun;
 use crate::run::Run;
 use libc::STDOUT_FILENO;
 
@@ -19,6 +20,23 @@ pub fn print_part(mut run: Run, name: &[u8]) -> Run {
     run.compared = 0;
     run.differ = 0;
     run
+}
+
+// What the raw lists brought about.
+pub fn print_raw(met: RawRun) {
+    print_numbers(b"raw lists, refusal ", 17, b": ", met.too_many as u64);
+    print_numbers(
+        b"raw lists, refusal 14 before the 13 of more than ",
+        20,
+        b" questions: ",
+        met.late as u64,
+    );
+    print_numbers(
+        b"raw lists accepted of which ",
+        0,
+        b" questions remain: ",
+        met.nothing as u64,
+    );
 }
 
 fn print_order(order: u32, stores: u32, in_one: u32) {
