@@ -26,7 +26,7 @@ use Rattle.terms.proofs.QuestionOrder.{orders-strict-total}
 use Rattle.terms.proofs.SimplifyForm.{question-simplified, simplified-stays, is-simplified-says, is-simplified-exact, simplify-keeps}
 use Rattle.terms.proofs.TermKept.{allows-says}
 use Rattle.terms.proofs.TermWords.{simplify-wordy, equation-of-words}
-use Rattle.raw_lists.specs.Ascends.{In, Ascends, WrittenIn}
+use Rattle.raw_lists.specs.IsResulting.{In, Ascends, WrittenIn}
 use Rattle.raw_lists.specs.Equations.{equations, words-of}
 use Rattle.raw_lists.specs.OpenRaw.{all-allowed, resulting-list}
 use Rattle.raw_lists.specs.Resulting.{resulting}
@@ -180,5 +180,6 @@ module _ (order : ListOrder) (limits : TermLimits) (list : List ℕ) (even : 2 *
   pub list-stays : resulting-list order list ≡ list
   list-stays =
       let total = orders-strict-total order in
-      ap words-of (sym (resulting-only (order-of order) total (equations list) (equations list) (taken-ascends (order-of order) limits list taken total) itself))
+      ap words-of (sym (resulting-only (order-of order) total (equations list) (equations list)
+      (record { ascends = taken-ascends (order-of order) limits list taken total; members = itself })))
       ∙ words-of-equations (length list / 2) list (sym even)

@@ -13,7 +13,7 @@ use Rattle.terms.specs.declared.term.Equation.{Equation}
 use Rattle.terms.specs.Order.{Order, before, StrictTotal}
 use Rattle.terms.specs.Simplify.{simplify}
 use Rattle.terms.proofs.QuestionOrder.{neither-before}
-use Rattle.raw_lists.specs.Ascends.{In, WrittenIn}
+use Rattle.raw_lists.specs.IsResulting.{In, WrittenIn}
 use Rattle.raw_lists.specs.Resulting.{remaining, Side, behind, in-front, there, side, with-question, with-equation, collected, resulting}
 
 -- ---- what remains of a raw equation

@@ -10,7 +10,7 @@ use lib.ListN.{length}
 use Rattle.store.specs.Layout.{question-in}
 use Rattle.terms.specs.declared.term.Equation.{Equation}
 use Rattle.terms.specs.Order.{Order, before, StrictTotal}
-use Rattle.raw_lists.specs.Ascends.{In, Ascends}
+use Rattle.raw_lists.specs.IsResulting.{In, Ascends}
 use Rattle.raw_lists.specs.Equations.{equations}
 
 question-later : (l r : ℕ) (words : List ℕ) (k : ℕ) → question-in (l ∷ r ∷ words) (suc k) ≡ question-in words k

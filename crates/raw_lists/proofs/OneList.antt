@@ -9,7 +9,7 @@ use mathlib.Core.Option.{Option, none, some}
 use native.Mathlib.Omega.{arith}
 use Rattle.terms.specs.declared.term.Equation.{Equation}
 use Rattle.terms.specs.Order.{Order, before, StrictTotal}
-use Rattle.raw_lists.specs.Ascends.{In, Ascends, WrittenIn}
+use Rattle.raw_lists.specs.IsResulting.{In, Ascends, WrittenIn, IsResulting}
 use Rattle.raw_lists.specs.Resulting.{remaining, Side, behind, in-front, there, side, with-question, with-equation, collected, resulting}
 use Rattle.raw_lists.proofs.ExactMembers.{put-only, exact-members}
 
@@ -100,14 +100,19 @@ module _ (order : Order) (total : StrictTotal (before order)) where
       )) in
       ap₂ (λ (x : Equation) (xs : List Equation). x ∷ xs) e rest
 
-  -- So a list that ascends strictly and has the questions that the raw equations simplify to is the resulting list,
-  pub resulting-only : (es qs : List Equation) → Ascends order qs → ((q : Equation) → In q qs ↔ WrittenIn es q) → qs ≡ resulting order es
-  resulting-only es qs a same =
-      ascending-only qs (resulting order es) a (resulting-ascends es)
-      (λ q. (λ m. exact-members order total es q .1 (same q .0 m), λ m. same q .1 (exact-members order total es q .0 m)))
+  -- ---- so the resulting list is what a reader believes of it, and nothing else is
+  pub resulting-is : (es : List Equation) → IsResulting order es (resulting order es)
+  resulting-is es = record { ascends = resulting-ascends es; members = exact-members order total es }
 
-  -- and raw lists whose equations simplify to the same questions have one resulting list.
+  pub resulting-only : (es qs : List Equation) → IsResulting order es qs → qs ≡ resulting order es
+  resulting-only es qs is =
+      ascending-only qs (resulting order es) (is .ascends) (resulting-ascends es)
+      (λ q. (λ m. exact-members order total es q .1 (is .members q .0 m), λ m. is .members q .1 (exact-members order total es q .0 m)))
+
+  -- Raw lists whose equations simplify to the same questions have one resulting list.
   pub same-written : (es ds : List Equation) → ((q : Equation) → WrittenIn es q ↔ WrittenIn ds q) → resulting order es ≡ resulting order ds
   same-written es ds same =
-      resulting-only ds (resulting order es) (resulting-ascends es)
-      (λ q. (λ m. same q .0 (exact-members order total es q .0 m), λ w. exact-members order total es q .1 (same q .1 w)))
+      resulting-only ds (resulting order es) (record {
+        ascends = resulting-ascends es;
+        members = λ q. (λ m. same q .0 (exact-members order total es q .0 m), λ w. exact-members order total es q .1 (same q .1 w));
+      })

@@ -1,6 +1,6 @@
 -- An accepted opening with a raw list is what open does with the resulting list: that list ascends, its questions are simplified and within the limits, and the tests of
 -- its length are open's. So the store is sound, and no question of it can be 15 or 16.
-use Prim.Native.Nat.{ℕ}
+use Prim.Native.Nat.{ℕ, _*_, _/_}
 use mathlib.Core.Path.{_≡_, refl, sym, ap, _∙_}
 use mathlib.Core.Bool.{true}
 use mathlib.Core.List.{List}
@@ -10,6 +10,8 @@ use Rattle.store.specs.declared.answer.Opened.{Opened}
 use Rattle.store.specs.declared.answer.Opened.the-variants.{Accepted, Refused}
 use Rattle.store.specs.Open.{opening, opened-words, opened, open-store}
 use Rattle.store.specs.Sound.{sound}
+use Rattle.store.specs.Layout.{list-words}
+use Rattle.store.proofs.OpenedWords.{opened-list}
 use Rattle.store.proofs.OpenSound.{opened-sound}
 use Rattle.store.proofs.OpenWays.{known-order, accepted, opens}
 use Rattle.terms.specs.declared.limits.Limits.{Limits}
@@ -17,12 +19,15 @@ use Rattle.terms.specs.declared.order.ListOrder.{ListOrder}
 use Rattle.terms.specs.Limits.{terms-within}
 use Rattle.terms.specs.Order.{order-of, order-number, order-named}
 use Rattle.terms.proofs.OrderNumbers.{number-names, number-only}
+use Rattle.terms.proofs.QuestionOrder.{orders-strict-total}
 use Rattle.raw_lists.specs.declared.answer.RawOpened.the-variants as raw-answer
 use Rattle.raw_lists.specs.Equations.{equations}
+use Rattle.raw_lists.specs.IsResulting.{IsResulting}
 use Rattle.raw_lists.specs.OpenRaw.{resulting-list, open-raw}
 use Rattle.raw_lists.specs.OpensResulting.{OpensResulting}
 use Rattle.raw_lists.specs.Resulting.{resulting}
-use Rattle.raw_lists.proofs.AcceptedList.{words-even, resulting-taken}
+use Rattle.raw_lists.proofs.AcceptedList.{words-even, resulting-words, resulting-taken}
+use Rattle.raw_lists.proofs.OneList.{resulting-is}
 use Rattle.raw_lists.proofs.RawAccepts.{RawAccepts, raw-accepts}
 
 module _ (limits : Limits) (n order : ℕ) (raw s : List ℕ) where
@@ -56,6 +61,14 @@ module _ (limits : Limits) (n order : ℕ) (raw s : List ℕ) where
     pub resulting-opened : open-raw limits n order raw s .words ≡ opened-words n order (resulting-list (o .known) raw) (length s)
     unfolding open-store
     resulting-opened = sym (ap (λ x. x .words) (o .as-open)) ∙ rw resulting-opening
+
+    -- the questions of the store are what the raw list results in
+    pub raw-list-is : IsResulting (order-of (o .known)) (equations raw) (equations (list-words (open-raw limits n order raw s .words)))
+    raw-list-is =
+        let list = resulting-list (o .known) raw in
+        let even : 2 * (length list / 2) ≡ length list = omega (arith, words-even (resulting (order-of (o .known)) (equations raw))) in
+        rw (resulting-opened, opened-list n order list (length s) even, resulting-words (o .known) raw)
+        (resulting-is (order-of (o .known)) (orders-strict-total (o .known)) (equations raw))
 
     pub raw-sound : sound limits (open-raw limits n order raw s .words) ≡ true
     raw-sound = rw resulting-opened (opened-sound limits n order (resulting-list (o .known) raw) s resulting-opening)

@@ -1,24 +1,19 @@
--- Raw lists that differ in their spelling have one resulting list: an equation turned round, or with the same steps added on both sides, simplifies to the same,
--- and how often and where it stands is nothing that the resulting list knows.
+-- A raw list says the same in another spelling: an equation turned round, or with the same steps added on both sides, simplifies to the same, and it does not matter how often
+-- and where it stands.
 use Prim.Native.Nat.{ℕ, _+_}
 use mathlib.Core.Path.{_≡_, refl, sym, _∙_}
 use mathlib.Core.Logic.{_↔_}
 use mathlib.Core.Bool.{cond}
 use mathlib.Core.List.{List}
 use native.Mathlib.Omega.{arith}
-use Rattle.terms.specs.declared.order.ListOrder.{ListOrder}
 use Rattle.terms.specs.declared.term.Equation.{Equation}
-use Rattle.terms.specs.Order.{order-of}
 use Rattle.terms.specs.Simplify.{turned, larger-left, lowered, simplify}
 use Rattle.terms.proofs.Cases.{by-lt}
 use Rattle.terms.proofs.Numbers.{equations-equal}
-use Rattle.terms.proofs.QuestionOrder.{orders-strict-total}
 use Rattle.terms.proofs.SimplifyForm.{simplify-turned}
 use Rattle.terms.proofs.SimplifyTruth.{same-test}
-use Rattle.raw_lists.specs.Ascends.{WrittenIn}
+use Rattle.raw_lists.specs.IsResulting.{WrittenIn}
 use Rattle.raw_lists.specs.OnPaper.{raised, Spells, as-it-is, turned-round, steps-added, Respelled}
-use Rattle.raw_lists.specs.Resulting.{resulting}
-use Rattle.raw_lists.proofs.OneList.{same-written}
 
 -- ---- one equation
 module _ (k : ℕ) where
@@ -42,14 +37,9 @@ spells-same as-it-is = refl
 spells-same (turned-round {d = d} s) = simplify-turned d ∙ spells-same s
 spells-same (steps-added {d = d} k s) = simplify-raised k d ∙ spells-same s
 
--- ---- raw lists
-module _ {es ds : List Equation} (r : Respelled es ds) where
-  same-questions : (q : Equation) → WrittenIn es q ↔ WrittenIn ds q
-  same-questions q = (
-    λ w. let d = r .spelled (w .0) (w .1) in (d .0, d .1, spells-same (d .2) ∙ w .2),
-    λ w. let e = r .spells (w .0) (w .1) in (e .0, e .1, sym (spells-same (e .2)) ∙ w .2),
-  )
-
-  -- Turning equations round, adding steps on both sides, doubling and reordering change nothing in the resulting list.
-  pub respelled-same : (order : ListOrder) → resulting (order-of order) es ≡ resulting (order-of order) ds
-  respelled-same order = same-written (order-of order) (orders-strict-total order) es ds same-questions
+-- Turning equations round, adding steps on both sides, doubling and reordering leave the questions that are written.
+pub respelled-written : {es ds : List Equation} → Respelled es ds → (q : Equation) → WrittenIn es q ↔ WrittenIn ds q
+respelled-written r q = (
+  λ w. let d = r .spelled (w .0) (w .1) in (d .0, d .1, spells-same (d .2) ∙ w .2),
+  λ w. let e = r .spells (w .0) (w .1) in (e .0, e .1, sym (spells-same (e .2)) ∙ w .2),
+)

@@ -1,7 +1,7 @@
 pub mod Limits
 pub mod Equations
 pub mod Resulting
-pub mod Ascends
+pub mod IsResulting
 pub mod RawOpened
 pub mod OpenRaw
 pub mod OpensResulting

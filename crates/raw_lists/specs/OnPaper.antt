@@ -11,7 +11,7 @@ use Rattle.terms.specs.declared.term.Term.{Term}
 use Rattle.terms.specs.Limits.{terms-within}
 use Rattle.terms.specs.Simplify.{turned}
 use Rattle.terms.specs.Words.{steps, term, equation}
-use Rattle.raw_lists.specs.Ascends.{In}
+use Rattle.raw_lists.specs.IsResulting.{In}
 use Rattle.raw_lists.specs.Equations.{equations}
 use Rattle.raw_lists.specs.Limits.{most-equations}
 use Rattle.raw_lists.specs.OpenRaw.{all-allowed}

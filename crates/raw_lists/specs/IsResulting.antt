@@ -1,5 +1,6 @@
 -- What a resulting list is, for a reader: it ascends strictly, and it has the questions that its raw list's equations simplify to, and no others.
 use mathlib.Core.Path.{_≡_}
+use mathlib.Core.Logic.{_↔_}
 use mathlib.Core.Bool.{true}
 use mathlib.Core.List.{List, [], _∷_, List·Memᴰ}
 use Rattle.terms.specs.declared.simplification.Guard.the-variants.{Question}
@@ -19,3 +20,8 @@ Ascends order (q ∷ qs) = ((p : Equation) → In p qs → before order q p ≡ 
 -- some equation of a raw list simplifies to a question
 abbrev pub WrittenIn : List Equation → Equation → Type 0
 WrittenIn es q = (e : Equation) × In e es × (simplify e ≡ Question q)
+
+-- qs is what a raw list results in
+pub record IsResulting (order : Order) (es qs : List Equation) : Type 0 where
+  pub ascends : Ascends order qs
+  pub members : (q : Equation) → In q qs ↔ WrittenIn es q
