@@ -6,6 +6,7 @@ use independent::{Answer, Limits, Operations, INSTITUTE, LOGGER};
 #[derive(Clone, Debug)]
 pub enum Call {
     Open { n: u32, order: u32, list: Vec<u32> },
+    OpenRaw { n: u32, order: u32, raw: Vec<u32> },
     Build { rule: Vec<u32> },
     LoggerOpen { n: u32, order: u32, list: Vec<u32> },
     LoggerBuild { rule: Vec<u32> },
@@ -28,6 +29,13 @@ pub struct Outcome {
     pub words: Vec<u32>,
     /// Whether the words around the lent slices are as they were.
     pub kept_within: bool,
+}
+
+impl Outcome {
+    /// Whether another call was answered alike and left the same store. What was lent beside the store may differ.
+    pub fn has_store_of(&self, other: &Outcome) -> bool {
+        (self.answer, &self.store) == (other.answer, &other.store)
+    }
 }
 
 /// How many words stand around a lent slice, to show a write that goes astray.
@@ -67,6 +75,7 @@ impl Call {
     pub fn name(&self) -> &'static str {
         match self {
             Call::Open { .. } => "open",
+            Call::OpenRaw { .. } => "open raw",
             Call::Build { .. } => "build",
             Call::LoggerOpen { .. } => "logger's open",
             Call::LoggerBuild { .. } => "logger's build",
@@ -89,7 +98,7 @@ impl Call {
         }
     }
 
-    /// The same opening or build by the other one of the institute and the logger.
+    /// The same opening or build by the other one of the institute and the logger. The logger takes no raw list.
     pub fn by_the_other(&self) -> Option<Call> {
         match self.clone() {
             Call::Open { n, order, list } => Some(Call::LoggerOpen { n, order, list }),
@@ -104,6 +113,7 @@ impl Call {
     fn words(&self) -> &[u32] {
         match self {
             Call::Open { list, .. } | Call::LoggerOpen { list, .. } => list,
+            Call::OpenRaw { raw, .. } => raw,
             Call::Build { rule } | Call::LoggerBuild { rule } | Call::WriteBack { rule, .. } => rule,
             Call::CheckNormalForm { table, .. } => table,
             _ => &[],
@@ -125,6 +135,7 @@ impl Call {
         let mut sheet = Lent::new(self.sheet(), 0xA55A);
         let answer = match *self {
             Call::Open { n, order, .. } => operations.open(n, order, words.slice(), store.slice()),
+            Call::OpenRaw { n, order, .. } => operations.open_raw(n, order, words.slice(), store.slice()),
             Call::Build { .. } => operations.build(store.slice(), words.slice()),
             Call::LoggerOpen { n, order, .. } => operations.logger_open(n, order, words.slice(), store.slice()),
             Call::LoggerBuild { .. } => operations.logger_build(store.slice(), words.slice()),

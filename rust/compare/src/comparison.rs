@@ -3,7 +3,7 @@
 use std::collections::BTreeMap;
 
 use independent::{largest_count, leaves, refusal, Answer, Fast, Limits, Operations, Paths, Plain, Question};
-use independent::{SimplifyAnswer, Term, HEADING, LOGGER};
+use independent::{SimplifyAnswer, Term, HEADING, INSTITUTE, LOGGER};
 
 use crate::calls::{Call, Outcome};
 use crate::generate::Survey;
@@ -39,9 +39,25 @@ pub mod occasion {
     pub const TOO_MANY_FIELDS_ALONE: &str = "22 by the logger for nothing but the fields of a store";
     pub const TOO_MANY_QUESTIONS_ALONE: &str = "22 by the logger for nothing but the questions of a store";
     pub const TOO_MANY_ENTRIES_ALONE: &str = "22 by the logger for nothing but the entries of a store";
+    pub const RAW_FIELDS_BEFORE_ORDER: &str = "11 for a raw list though 18 and 12 apply as well";
+    pub const RAW_ORDER_BEFORE_LIST: &str = "18 for a raw list though 12 applies as well";
+    pub const RAW_ODD_BEFORE_EQUATIONS: &str = "12 for the words of more than 64 raw equations";
+    pub const RAW_EQUATIONS_BEFORE_TERMS: &str = "17 for a raw list though 14 applies as well";
+    pub const RAW_TERM_BEFORE_QUESTIONS: &str =
+        "14 for a raw list though more than 20 questions come before the bad term";
+    pub const RAW_TERM_OF_ALWAYS: &str = "14 for a raw equation that would be always";
+    pub const RAW_TERM_OF_NEVER: &str = "14 for a raw equation that would be never";
+    pub const RAW_QUESTIONS_BEFORE_STORE: &str = "13 for a raw list though 21 applies as well";
+    pub const RAW_SHORT_BY_ONE_WORD: &str = "21 for a raw list, by one word";
+    pub const RAW_NOTHING_REMAINS: &str = "an accepted raw list of which nothing remains";
+    pub const RAW_LARGEST: &str = "an accepted raw list of 64 equations";
+    pub const RAW_TOO_LONG_FOR_OPEN: &str = "an accepted raw list that open refuses with 13";
+    pub const RAW_NOT_SIMPLIFIED: &str = "an accepted raw list that open refuses with 15";
+    pub const RAW_NOT_ASCENDING: &str = "an accepted raw list that open refuses with 16";
+    pub const RAW_ORDERS_DIFFER: &str = "an accepted raw list that leaves another list in the other order";
 
     /// Every occasion.
-    pub const ALL: [&str; 20] = [
+    pub const ALL: [&str; 35] = [
         LIST_IN_ONE_ORDER,
         LIST_IN_BOTH_ORDERS,
         FIELDS_BEFORE_ORDER,
@@ -62,6 +78,21 @@ pub mod occasion {
         TOO_MANY_FIELDS_ALONE,
         TOO_MANY_QUESTIONS_ALONE,
         TOO_MANY_ENTRIES_ALONE,
+        RAW_FIELDS_BEFORE_ORDER,
+        RAW_ORDER_BEFORE_LIST,
+        RAW_ODD_BEFORE_EQUATIONS,
+        RAW_EQUATIONS_BEFORE_TERMS,
+        RAW_TERM_BEFORE_QUESTIONS,
+        RAW_TERM_OF_ALWAYS,
+        RAW_TERM_OF_NEVER,
+        RAW_QUESTIONS_BEFORE_STORE,
+        RAW_SHORT_BY_ONE_WORD,
+        RAW_NOTHING_REMAINS,
+        RAW_LARGEST,
+        RAW_TOO_LONG_FOR_OPEN,
+        RAW_NOT_SIMPLIFIED,
+        RAW_NOT_ASCENDING,
+        RAW_ORDERS_DIFFER,
     ];
 }
 
@@ -139,7 +170,27 @@ impl Comparison {
                 self.differ(&format!("{by}\n  {calls}\n  library {outcome:?}\n  other {expected:?}"));
             }
         }
+        if outcome.answer.number == 0 {
+            self.test_other_opening(call, store, &outcome);
+        }
         outcome
+    }
+
+    /// Makes the other one of the library's two openings on the words that were lent to an accepted one: the old opening of the list that the
+    /// raw opening has left, or the raw opening of the list that the old one has taken. Both have to leave the same store.
+    fn test_other_opening(&mut self, call: &Call, lent: &[u32], outcome: &Outcome) {
+        let (name, other) = match call.clone() {
+            Call::OpenRaw { n, order, .. } => {
+                let list = list_of(&INSTITUTE, &outcome.store).unwrap_or_default().to_vec();
+                ("the old opening of a resulting list", Call::Open { n, order, list })
+            }
+            Call::Open { n, order, list } => {
+                ("a list that the old opening accepts, opened raw", Call::OpenRaw { n, order, raw: list })
+            }
+            _ => return,
+        };
+        let by_other = other.make(&Library, lent);
+        self.test(name, by_other.kept_within && by_other.has_store_of(outcome), || format!("{call:?} on {lent:?}"));
     }
 
     /// Simplifies with the library and with both other implementations.
@@ -277,9 +328,10 @@ impl Comparison {
 }
 
 /// The numbers that each operation can give, by documents 01 and 02.
-const NUMBERS: [(&str, &[u32]); 13] = [
+const NUMBERS: [(&str, &[u32]); 14] = [
     ("simplify", &[0, 35]),
     ("open", &[0, 11, 12, 13, 14, 15, 16, 18, 21]),
+    ("open raw", &[0, 11, 12, 13, 14, 17, 18, 21]),
     ("build", &[0, 22, 31, 32, 33, 34, 35, 36, 51]),
     ("logger's open", &[0, 11, 12, 13, 14, 15, 16, 18, 21]),
     ("logger's build", &[0, 22, 31, 32, 33, 34, 35, 36, 51]),
@@ -298,13 +350,18 @@ pub fn questions_of(list: &[u32]) -> Vec<Question> {
     list.chunks(2).map(|pair| (Term::of_word(pair[0]), Term::of_word(pair[1]))).collect()
 }
 
-/// The fields and questions of a store, if its heading is within the limits and leaves a list to look at.
-fn survey_of(limits: &Limits, store: &[u32]) -> Option<(u32, Vec<Question>)> {
+/// The list words of a store, if its heading is within the limits and leaves a list to look at.
+fn list_of<'a>(limits: &Limits, store: &'a [u32]) -> Option<&'a [u32]> {
     let [n, q, used, _, rest @ ..] = store else { return None };
     if *n > limits.fields || *q > limits.questions as u32 || *used > limits.entries as u32 {
         return None;
     }
-    Some((*n, questions_of(rest.get(..2 * *q as usize)?)))
+    rest.get(..2 * *q as usize)
+}
+
+/// The fields and questions of such a store.
+fn survey_of(limits: &Limits, store: &[u32]) -> Option<(u32, Vec<Question>)> {
+    list_of(limits, store).map(|list| (store[0], questions_of(list)))
 }
 
 /// A number that the possible combinations of answers don't exceed. Of the questions about the same two fields at most one is true.
@@ -339,11 +396,11 @@ impl Affordable {
     const BOTH: Affordable = Affordable { bounds: true, counting: true, trees: false };
 }
 
-/// Which plain implementations can make a call in some milliseconds. They compare every two entries of a store or table. All but open,
-/// read and write back look at every possible combination of answers, and the check of another tool's diagrams at every path.
+/// Which plain implementations can make a call in some milliseconds. They compare every two entries of a store or table. All but the
+/// openings, read and write back look at every possible combination of answers, and the check of another tool's diagrams at every path.
 fn affordable(call: &Call, store: &[u32]) -> Affordable {
     match call {
-        Call::Open { .. } | Call::LoggerOpen { .. } => return Affordable::BOTH,
+        Call::Open { .. } | Call::OpenRaw { .. } | Call::LoggerOpen { .. } => return Affordable::BOTH,
         Call::CheckNormalForm { table, root } => {
             let trees = table.len() <= 4 * 300 && leaves(table, *root) <= MOST_PATHS;
             return Affordable { trees, ..Affordable::default() };

@@ -23,20 +23,29 @@ impl Survey {
         Call::Open { n: self.n, order: self.order, list: self.list.clone() }
     }
 
+    /// The call that opens a store for it, its list taken as a raw one.
+    pub fn open_raw(&self) -> Call {
+        Call::OpenRaw { n: self.n, order: self.order, raw: self.list.clone() }
+    }
+
     /// The call by which the logger opens a store for it.
     pub fn logger_open(&self) -> Call {
         Call::LoggerOpen { n: self.n, order: self.order, list: self.list.clone() }
     }
 
-    /// The number of questions.
+    /// The number of questions, of a raw list that of equations.
     pub fn questions(&self) -> usize {
         self.list.len() / 2
     }
 
+    /// The pairs of words of the list.
+    pub fn pairs(&self) -> &[[u32; 2]] {
+        self.list.as_chunks().0
+    }
+
     /// The same questions, listed in an order.
     pub fn in_order(&self, order: u32) -> Survey {
-        let questions = self.list.chunks(2).map(|pair| [pair[0], pair[1]]).collect();
-        Survey { n: self.n, order, list: in_order(order, questions) }
+        Survey { n: self.n, order, list: in_order(order, self.pairs().to_vec()) }
     }
 
     /// Whether the list, which is in some order, is in no other.
@@ -237,24 +246,35 @@ fn damage_list(random: &mut Random, list: &mut Vec<u32>) {
     }
 }
 
+/// An equation of a field, or of zero, with itself: always or never true.
+pub fn with_itself(random: &mut Random, n: u32) -> [u32; 2] {
+    let field = random.below(n + 1);
+    let steps = if random.one_in(2) { 2 } else { MOST_STEPS + 1 };
+    [0; 2].map(|_| Term { field, steps: random.below(steps) }.word())
+}
+
+/// How many steps more both sides of an equation can have. Its terms are within the limits.
+pub fn spare_steps(pair: [u32; 2]) -> u32 {
+    let [a, b] = pair.map(Term::of_word);
+    MOST_STEPS - a.steps.max(b.steps)
+}
+
+/// An equation with more steps on both sides.
+pub fn raised(pair: [u32; 2], steps: u32) -> [u32; 2] {
+    pair.map(|word| word + 32 * steps)
+}
+
 /// A pair of term words that simplifies to a question of the list, or to always or never.
 fn equation(random: &mut Random, survey: &Survey) -> [u32; 2] {
     if survey.list.is_empty() || random.one_in(10) {
-        let field = random.below(survey.n + 1);
-        let steps = if random.one_in(2) { 2 } else { MOST_STEPS + 1 };
-        let [a, b] = [0; 2].map(|_| Term { field, steps: random.below(steps) });
-        return [a.word(), b.word()];
+        return with_itself(random, survey.n);
     }
-    let at = 2 * random.place(survey.list.len() / 2);
-    let (mut a, mut b) = (Term::of_word(survey.list[at]), Term::of_word(survey.list[at + 1]));
+    let mut pair = *random.pick(survey.pairs());
     if random.one_in(2) {
-        std::mem::swap(&mut a, &mut b);
+        pair.reverse();
     }
-    let spare = MOST_STEPS - a.steps.max(b.steps);
-    let common = if random.one_in(2) { 0 } else { random.below(spare + 1) };
-    a.steps += common;
-    b.steps += common;
-    [a.word(), b.word()]
+    let common = if random.one_in(2) { 0 } else { random.below(spare_steps(pair) + 1) };
+    raised(pair, common)
 }
 
 /// A rule table with the given number of rows, which build accepts if there is room.
@@ -372,9 +392,8 @@ pub fn faulty_rule(random: &mut Random, survey: &Survey) -> Vec<u32> {
         }
         // An equation of the list with steps more on both sides, one more than the limit allows.
         9 => {
-            let terms = equation(random, survey).map(Term::of_word);
-            let more = MOST_STEPS + 1 - terms[0].steps.max(terms[1].steps);
-            let [a, b] = terms.map(|term| Term { steps: term.steps + more, ..term }.word());
+            let pair = equation(random, survey);
+            let [a, b] = raised(pair, spare_steps(pair) + 1);
             words[row..row + 4].copy_from_slice(&[2, a, b, 0]);
         }
         // An equation that is hardly on the list.

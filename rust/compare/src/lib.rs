@@ -7,3 +7,4 @@ pub mod ledger;
 pub mod library;
 pub mod normal_forms;
 pub mod random;
+pub mod raw_lists;

@@ -3,7 +3,7 @@
 use independent::{Answer, Operations, SimplifyAnswer};
 use sheet::words;
 
-/// The thirteen operations of libsheet.a.
+/// The fourteen operations of libsheet.a.
 pub struct Library;
 
 fn answer(answer: words::Answer) -> Answer {
@@ -18,6 +18,10 @@ impl Operations for Library {
 
     fn open(&self, n: u32, order: u32, list: &[u32], store: &mut [u32]) -> Answer {
         answer(words::open(n, order, list, store))
+    }
+
+    fn open_raw(&self, n: u32, order: u32, raw: &[u32], store: &mut [u32]) -> Answer {
+        answer(words::open_raw(n, order, raw, store))
     }
 
     fn build(&self, store: &mut [u32], rule: &[u32]) -> Answer {

@@ -39,6 +39,13 @@ impl Random {
         &from[self.place(from.len())]
     }
 
+    /// Puts the items into any order.
+    pub fn shuffle<T>(&mut self, items: &mut [T]) {
+        for end in (2..=items.len()).rev() {
+            items.swap(end - 1, self.place(end));
+        }
+    }
+
     pub fn word(&mut self) -> u32 {
         self.number() as u32
     }

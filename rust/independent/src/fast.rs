@@ -4,7 +4,8 @@ use std::collections::HashMap;
 
 use crate::refusal::*;
 use crate::{normal_form, Answer, Limits, Operations, SimplifyAnswer, Term, INSTITUTE, LOGGER};
-use crate::{ALWAYS, FIELDS_FIRST, FIRST_ENTRY, HEADING, MOST_FIELDS, MOST_QUESTIONS, MOST_ROWS, NEVER, ORDERS};
+use crate::{ALWAYS, FIELDS_FIRST, FIRST_ENTRY, HEADING, NEVER, ORDERS};
+use crate::{MOST_EQUATIONS, MOST_FIELDS, MOST_QUESTIONS, MOST_ROWS};
 
 /// The operations. They keep nothing between calls: all that is known stands in the lent store.
 pub struct Fast;
@@ -147,8 +148,17 @@ impl Bounds {
 // The store
 // ---------------------------------------------------------------------------------------------------------------------
 
-/// The questions of a list, or the first of 11 to 18 that it meets.
-fn checked_list(limits: &Limits, n: u32, order: u32, words: &[u32]) -> Result<Vec<Question>, u32> {
+/// What an order compares two questions by.
+type Rank = (u32, [u32; 2], u32);
+
+/// The orders differ in which of the two numbers in the middle is compared first.
+fn rank(order: u32, left: Term, right: Term) -> Rank {
+    let between = if order == FIELDS_FIRST { [right.field, left.steps] } else { [left.steps, right.field] };
+    (left.field, between, right.steps)
+}
+
+/// Looks for 11, 18 and 12, which come before any word of a list.
+fn check_before_words(limits: &Limits, n: u32, order: u32, words: &[u32]) -> Result<(), u32> {
     if n > limits.fields {
         return Err(TOO_MANY_FIELDS);
     }
@@ -158,29 +168,62 @@ fn checked_list(limits: &Limits, n: u32, order: u32, words: &[u32]) -> Result<Ve
     if !words.len().is_multiple_of(2) {
         return Err(ODD_LIST);
     }
+    Ok(())
+}
+
+/// The terms of two words of a list, or 14.
+fn checked_terms(limits: &Limits, n: u32, pair: &[u32]) -> Result<(Term, Term), u32> {
+    let (left, right) = (Term::of_word(pair[0]), Term::of_word(pair[1]));
+    if left.within(limits, n) && right.within(limits, n) {
+        Ok((left, right))
+    } else {
+        Err(LIST_TERM)
+    }
+}
+
+/// The questions of a list, or the first of 11 to 18 that it meets.
+fn checked_list(limits: &Limits, n: u32, order: u32, words: &[u32]) -> Result<Vec<Question>, u32> {
+    check_before_words(limits, n, order, words)?;
     if words.len() / 2 > limits.questions {
         return Err(TOO_MANY_QUESTIONS);
     }
     let mut questions = Vec::with_capacity(words.len() / 2);
     let mut before = None;
     for pair in words.chunks_exact(2) {
-        let (left, right) = (Term::of_word(pair[0]), Term::of_word(pair[1]));
-        if !left.within(limits, n) || !right.within(limits, n) {
-            return Err(LIST_TERM);
-        }
+        let (left, right) = checked_terms(limits, n, pair)?;
         match simplified(left, right) {
             Simplified::Question(question) if question.words() == pair => questions.push(question),
             _ => return Err(NOT_SIMPLIFIED),
         }
-        // The orders differ in which of these two numbers is compared first.
-        let between = if order == FIELDS_FIRST { [right.field, left.steps] } else { [left.steps, right.field] };
-        let rank = Some((left.field, between, right.steps));
+        let rank = Some(rank(order, left, right));
         if before >= rank {
             return Err(NOT_ASCENDING);
         }
         before = rank;
     }
     Ok(questions)
+}
+
+/// The words of the list that remains of a raw one, which the institute alone takes; or the first of 11 to 18 that it meets.
+fn remaining_list(n: u32, order: u32, raw: &[u32]) -> Result<Vec<u32>, u32> {
+    check_before_words(&INSTITUTE, n, order, raw)?;
+    if raw.len() / 2 > MOST_EQUATIONS {
+        return Err(TOO_MANY_EQUATIONS);
+    }
+    let mut ranked: Vec<(Rank, [u32; 2])> = Vec::with_capacity(MOST_EQUATIONS);
+    for pair in raw.chunks_exact(2) {
+        let (a, b) = checked_terms(&INSTITUTE, n, pair)?;
+        if let Simplified::Question(question) = simplified(a, b) {
+            let [left, right] = question.words();
+            ranked.push((rank(order, Term::of_word(left), Term::of_word(right)), [left, right]));
+        }
+    }
+    ranked.sort_unstable();
+    ranked.dedup();
+    if ranked.len() > INSTITUTE.questions {
+        return Err(TOO_MANY_QUESTIONS);
+    }
+    Ok(ranked.into_iter().flat_map(|(_, words)| words).collect())
 }
 
 type Entry = [u32; 3];
@@ -646,16 +689,25 @@ impl LeastSearch<'_> {
 // The operations
 // ---------------------------------------------------------------------------------------------------------------------
 
-fn open(limits: &Limits, n: u32, order: u32, list: &[u32], store: &mut [u32]) -> Result<u32, u32> {
-    let questions = checked_list(limits, n, order, list)?;
+/// Opens a store for the words of a list that stands in the order.
+fn write_opened(n: u32, order: u32, list: &[u32], store: &mut [u32]) -> Result<u32, u32> {
     let end = HEADING + list.len();
     if store.len() < end {
         return Err(STORE_TOO_SHORT);
     }
-    store[..HEADING].copy_from_slice(&[n, questions.len() as u32, 0, order]);
+    store[..HEADING].copy_from_slice(&[n, list.len() as u32 / 2, 0, order]);
     store[HEADING..end].copy_from_slice(list);
     store[end..].fill(0);
     Ok(0)
+}
+
+fn open(limits: &Limits, n: u32, order: u32, list: &[u32], store: &mut [u32]) -> Result<u32, u32> {
+    checked_list(limits, n, order, list)?;
+    write_opened(n, order, list, store)
+}
+
+fn open_raw(n: u32, order: u32, raw: &[u32], store: &mut [u32]) -> Result<u32, u32> {
+    write_opened(n, order, &remaining_list(n, order, raw)?, store)
 }
 
 fn build(limits: &Limits, store: &mut [u32], rule: &[u32]) -> Result<u32, u32> {
@@ -767,6 +819,10 @@ impl Operations for Fast {
 
     fn open(&self, n: u32, order: u32, list: &[u32], store: &mut [u32]) -> Answer {
         open(&INSTITUTE, n, order, list, store).into()
+    }
+
+    fn open_raw(&self, n: u32, order: u32, raw: &[u32], store: &mut [u32]) -> Answer {
+        open_raw(n, order, raw, store).into()
     }
 
     fn build(&self, store: &mut [u32], rule: &[u32]) -> Answer {

@@ -1,4 +1,4 @@
-//! The thirteen operations, written a second time from documents 01 and 02, from document 000 where these cite it, and from nothing else.
+//! The fourteen operations, written a second time from documents 01 and 02, from document 000 where these cite it, and from nothing else.
 //!
 //! The proved library keeps the facts of a path as classes of fields with offsets. Nothing here does:
 //!
@@ -6,6 +6,9 @@
 //!   questions; a question is forced if the combinations still possible agree on it. It finds them in one of two ways: by trying
 //!   all counts up to a bound, or by bounds on the differences of counts, worked out anew for each combination.
 //! - [`Fast`] walks with difference bounds that it keeps up to date, and finds entries by hashing. It is what a benchmark compares with.
+//!
+//! The library inserts the questions of a raw list one by one where they belong. [`Plain`] makes a set of them, and sorts it by the numbers
+//! that an order compares; [`Fast`] sorts them with their doubles, each beside these numbers, and drops what is equal to the one before.
 //!
 //! Tables of diagrams are checked by [`Plain`] as trees, with [`Paths`] to look for a sheet on every path, and by [`Fast`] with the set of
 //! entries below each handle.
@@ -31,6 +34,8 @@ pub const MOST_STEPS: u32 = 1023;
 pub const MOST_CHECKED_STEPS: u32 = 4095;
 /// The largest number of questions in a list.
 pub const MOST_QUESTIONS: usize = 20;
+/// The largest number of equations in a raw list.
+pub const MOST_EQUATIONS: usize = 64;
 /// The largest number of entries in a store, and in a table of diagrams.
 pub const MOST_ENTRIES: usize = 4096;
 
@@ -76,6 +81,7 @@ pub mod refusal {
     pub const LIST_TERM: u32 = 14;
     pub const NOT_SIMPLIFIED: u32 = 15;
     pub const NOT_ASCENDING: u32 = 16;
+    pub const TOO_MANY_EQUATIONS: u32 = 17;
     pub const UNKNOWN_ORDER: u32 = 18;
     pub const STORE_TOO_SHORT: u32 = 21;
     pub const NOT_SOUND: u32 = 22;
@@ -98,13 +104,14 @@ pub mod refusal {
     pub const NOT_NORMAL_FORM: u32 = 86;
 
     /// Every refusal number.
-    pub const ALL: [u32; 26] = [
+    pub const ALL: [u32; 27] = [
         TOO_MANY_FIELDS,
         ODD_LIST,
         TOO_MANY_QUESTIONS,
         LIST_TERM,
         NOT_SIMPLIFIED,
         NOT_ASCENDING,
+        TOO_MANY_EQUATIONS,
         UNKNOWN_ORDER,
         STORE_TOO_SHORT,
         NOT_SOUND,
@@ -154,10 +161,11 @@ pub struct SimplifyAnswer {
     pub gap: i32,
 }
 
-/// The thirteen operations over lent words. Each way of doing them has this form, so that they can be compared call by call.
+/// The fourteen operations over lent words. Each way of doing them has this form, so that they can be compared call by call.
 pub trait Operations {
     fn simplify(&self, a: u32, b: u32) -> SimplifyAnswer;
     fn open(&self, n: u32, order: u32, list: &[u32], store: &mut [u32]) -> Answer;
+    fn open_raw(&self, n: u32, order: u32, raw: &[u32], store: &mut [u32]) -> Answer;
     fn build(&self, store: &mut [u32], rule: &[u32]) -> Answer;
     fn logger_open(&self, n: u32, order: u32, list: &[u32], store: &mut [u32]) -> Answer;
     fn logger_build(&self, store: &mut [u32], rule: &[u32]) -> Answer;

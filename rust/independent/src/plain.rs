@@ -6,7 +6,7 @@ use std::rc::Rc;
 
 use crate::refusal::*;
 use crate::{trees, Answer, Limits, Operations, SimplifyAnswer, Term, INSTITUTE, LOGGER};
-use crate::{ALWAYS, FIELDS_FIRST, FIRST_ENTRY, HEADING, LEFT_FIRST, MOST_ROWS, NEVER};
+use crate::{ALWAYS, FIELDS_FIRST, FIRST_ENTRY, HEADING, LEFT_FIRST, MOST_EQUATIONS, MOST_ROWS, NEVER};
 
 /// The answers to all questions of a list: bit i is the truth of question i, counted from 0.
 pub type Truths = u32;
@@ -250,8 +250,11 @@ fn older_rank(question: &Question) -> (u32, u32, u32, u32) {
     (left.field, left.steps, right.field, right.steps)
 }
 
-/// The list's questions, or the first of 11 to 18 that it meets.
-fn checked_list(limits: &Limits, n: u32, order: u32, words: &[u32]) -> Result<Vec<Question>, u32> {
+/// How questions are compared in an order.
+type Rank = fn(&Question) -> (u32, u32, u32, u32);
+
+/// The rank of the order, or the first of 11, 18 and 12 that is met. No word is looked at.
+fn checked_rank(limits: &Limits, n: u32, order: u32, words: &[u32]) -> Result<Rank, u32> {
     if n > limits.fields {
         return Err(TOO_MANY_FIELDS);
     }
@@ -263,15 +266,27 @@ fn checked_list(limits: &Limits, n: u32, order: u32, words: &[u32]) -> Result<Ve
     if !words.len().is_multiple_of(2) {
         return Err(ODD_LIST);
     }
+    Ok(rank)
+}
+
+/// The equation of two words, or 14.
+fn checked_pair(limits: &Limits, n: u32, pair: &[u32]) -> Result<Question, u32> {
+    let equation = (Term::of_word(pair[0]), Term::of_word(pair[1]));
+    if !equation.0.within(limits, n) || !equation.1.within(limits, n) {
+        return Err(LIST_TERM);
+    }
+    Ok(equation)
+}
+
+/// The list's questions, or the first of 11 to 18 that it meets.
+fn checked_list(limits: &Limits, n: u32, order: u32, words: &[u32]) -> Result<Vec<Question>, u32> {
+    let rank = checked_rank(limits, n, order, words)?;
     if words.len() / 2 > limits.questions {
         return Err(TOO_MANY_QUESTIONS);
     }
     let mut questions: Vec<Question> = Vec::new();
     for pair in words.chunks(2) {
-        let question = (Term::of_word(pair[0]), Term::of_word(pair[1]));
-        if !question.0.within(limits, n) || !question.1.within(limits, n) {
-            return Err(LIST_TERM);
-        }
+        let question = checked_pair(limits, n, pair)?;
         if simplified(question.0, question.1) != Simplified::Question(question) {
             return Err(NOT_SIMPLIFIED);
         }
@@ -280,6 +295,27 @@ fn checked_list(limits: &Limits, n: u32, order: u32, words: &[u32]) -> Result<Ve
         }
         questions.push(question);
     }
+    Ok(questions)
+}
+
+/// The questions that remain of a raw list, which the institute alone takes, in their order; or the first of 11 to 18 that it meets.
+fn remaining(n: u32, order: u32, raw: &[u32]) -> Result<Vec<Question>, u32> {
+    let rank = checked_rank(&INSTITUTE, n, order, raw)?;
+    if raw.len() / 2 > MOST_EQUATIONS {
+        return Err(TOO_MANY_EQUATIONS);
+    }
+    let mut found: BTreeSet<[u32; 2]> = BTreeSet::new();
+    for pair in raw.chunks(2) {
+        let (a, b) = checked_pair(&INSTITUTE, n, pair)?;
+        if let Simplified::Question((left, right)) = simplified(a, b) {
+            found.insert([left.word(), right.word()]);
+        }
+    }
+    if found.len() > INSTITUTE.questions {
+        return Err(TOO_MANY_QUESTIONS);
+    }
+    let mut questions: Vec<Question> = found.into_iter().map(|pair| pair.map(Term::of_word).into()).collect();
+    questions.sort_by_key(rank);
     Ok(questions)
 }
 
@@ -513,17 +549,26 @@ fn row_holds(rows: &[Row], at: usize, truths: Truths) -> bool {
 // The operations
 // ---------------------------------------------------------------------------------------------------------------------
 
-fn open(limits: &Limits, n: u32, order: u32, list: &[u32], store: &mut [u32]) -> Result<u32, u32> {
-    checked_list(limits, n, order, list)?;
+/// Makes the words a store without entries for questions in their order, if they are enough.
+fn write_opened(n: u32, order: u32, questions: &[Question], store: &mut [u32]) -> Result<u32, u32> {
+    let list: Vec<u32> = questions.iter().flat_map(|(left, right)| [left.word(), right.word()]).collect();
     if store.len() < HEADING + list.len() {
         return Err(STORE_TOO_SHORT);
     }
     store.fill(0);
     store[0] = n;
-    store[1] = (list.len() / 2) as u32;
+    store[1] = questions.len() as u32;
     store[3] = order;
-    store[HEADING..HEADING + list.len()].copy_from_slice(list);
+    store[HEADING..HEADING + list.len()].copy_from_slice(&list);
     Ok(0)
+}
+
+fn open(limits: &Limits, n: u32, order: u32, list: &[u32], store: &mut [u32]) -> Result<u32, u32> {
+    write_opened(n, order, &checked_list(limits, n, order, list)?, store)
+}
+
+fn open_raw(n: u32, order: u32, raw: &[u32], store: &mut [u32]) -> Result<u32, u32> {
+    write_opened(n, order, &remaining(n, order, raw)?, store)
 }
 
 impl Plain {
@@ -679,6 +724,10 @@ impl Operations for Plain {
 
     fn open(&self, n: u32, order: u32, list: &[u32], store: &mut [u32]) -> Answer {
         open(&INSTITUTE, n, order, list, store).into()
+    }
+
+    fn open_raw(&self, n: u32, order: u32, raw: &[u32], store: &mut [u32]) -> Answer {
+        open_raw(n, order, raw, store).into()
     }
 
     fn build(&self, store: &mut [u32], rule: &[u32]) -> Answer {

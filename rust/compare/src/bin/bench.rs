@@ -201,6 +201,20 @@ fn building(survey: Survey, rule: Vec<u32>) -> Run {
     changing(opened(&survey, MOST_ENTRIES), move |operations, store| operations.build(store, &rule).number)
 }
 
+/// Simplifies 1,000 equations.
+fn simplifying() -> Run {
+    let mut random = Random::new(3);
+    let term = |random: &mut Random| Term { field: random.below(17), steps: random.below(MOST_STEPS + 1) }.word();
+    let pairs: Vec<(u32, u32)> = (0..1000).map(|_| (term(&mut random), term(&mut random))).collect();
+    Box::new(move |operations| {
+        let start = Instant::now();
+        for (a, b) in &pairs {
+            black_box(operations.simplify(*a, *b));
+        }
+        start.elapsed()
+    })
+}
+
 /// Checks a table of diagrams whose root is its last entry. Nothing is written, so nothing has to be put back.
 fn checking(entries: &[Entry], number: u32) -> Run {
     let (table, root) = (entries.concat(), last(entries));
@@ -229,23 +243,20 @@ fn rows() -> Vec<Row> {
 fn small_rows() -> Vec<Row> {
     const GROUP: &str = "Terms, opening and the test of a store";
     vec![
-        row(GROUP, "simplify, 1,000 pairs of terms", || {
-            let mut random = Random::new(3);
-            let term =
-                |random: &mut Random| Term { field: random.below(17), steps: random.below(MOST_STEPS + 1) }.word();
-            let pairs: Vec<(u32, u32)> = (0..1000).map(|_| (term(&mut random), term(&mut random))).collect();
-            Box::new(move |operations| {
-                let start = Instant::now();
-                for (a, b) in &pairs {
-                    black_box(operations.simplify(*a, *b));
-                }
-                start.elapsed()
-            })
-        }),
+        row(GROUP, "simplify, 1,000 pairs of terms", simplifying),
         row(GROUP, "open, 20 questions, room for 4,096 entries", || {
             let survey = wide();
             changing(opened(&survey, MOST_ENTRIES), move |operations, store| {
                 operations.open(survey.n, survey.order, &survey.list, store).number
+            })
+        }),
+        row(GROUP, "open raw, the same falling, turned round, each three times: 60 equations", || {
+            let survey = wide();
+            // Read backwards the list falls, and its equations are turned round.
+            let falling: Vec<u32> = survey.list.iter().rev().copied().collect();
+            let raw = falling.repeat(3);
+            changing(opened(&survey, MOST_ENTRIES), move |operations, store| {
+                operations.open_raw(survey.n, survey.order, &raw, store).number
             })
         }),
         row(GROUP, "verdict of never: the soundness test of 4,096 entries", || {

@@ -54,6 +54,7 @@ pub fn document_cases(comparison: &mut Comparison, _: &mut Random, _: u64) {
     examples(comparison);
     limits(comparison);
     orders(comparison);
+    raw_lists(comparison);
 }
 
 /// Cases 1 to 4.
@@ -295,4 +296,83 @@ fn orders_in_a_store(comparison: &mut Comparison) {
         }
     }
     verdict(comparison, &[0, 0, 0], 0, (22, 0));
+}
+
+fn open_raw(comparison: &mut Comparison, (n, order): (u32, u32), raw: &[u32], length: usize) -> Outcome {
+    comparison.call(&Call::OpenRaw { n, order, raw: raw.to_vec() }, &vec![1; length])
+}
+
+/// Opens a raw list for n fields and an order, on just as many words as it is to leave.
+fn opened_raw(comparison: &mut Comparison, head: (u32, u32), raw: &[u32], words: &[u32]) {
+    let accepted = open_raw(comparison, head, raw, words.len());
+    answer(comparison, &accepted, 0, 0);
+    equal(comparison, &accepted.store[..], words);
+}
+
+fn refused_raw(comparison: &mut Comparison, head: (u32, u32), raw: &[u32], length: usize, number: u32) {
+    let refused = open_raw(comparison, head, raw, length);
+    answer(comparison, &refused, number, 0);
+    equal(comparison, refused.store, vec![1; length]);
+}
+
+/// Document 02's (i): lists as they stand on paper.
+fn raw_lists(comparison: &mut Comparison) {
+    raw_case_6(comparison);
+    raw_lists_in_order(comparison);
+    raw_lists_before_words(comparison);
+    raw_terms(comparison);
+    raw_lists_of_64(comparison);
+}
+
+/// Case 6's questions: 1 = 2, S(3) = S(1), 2 = 3, and again 2 = 1; then 1 = 1, which is always, and S(2) = 0, which is never.
+fn raw_case_6(comparison: &mut Comparison) {
+    let store = [3, 3, 0, 0, 2, 1, 3, 1, 3, 2, 0, 0, 0, 0, 0, 0, 0, 0, 0, 0, 0, 0];
+    opened_raw(comparison, (3, 0), &[1, 2, 35, 33, 2, 3, 2, 1, 1, 1, 34, 0], &store);
+    let equation = built(comparison, &store, &[[2, 3, 2, 0]]);
+    answer(comparison, &equation, 0, 5);
+    equal(comparison, &equation.store[..], &CASE_6);
+}
+
+/// 3 = 2 and 1 = S(3), which the orders list differently; 1 = 2 and 2 = 1, which are one question.
+fn raw_lists_in_order(comparison: &mut Comparison) {
+    opened_raw(comparison, (3, 0), &[3, 2, 1, 35], &[3, 2, 0, 0, 35, 1, 3, 2]);
+    opened_raw(comparison, (3, 1), &[3, 2, 1, 35], &[3, 2, 0, 1, 3, 2, 35, 1]);
+    refused_raw(comparison, (3, 0), &[3, 2, 1, 35], 7, 21);
+    opened_raw(comparison, (3, 0), &[1, 2, 2, 1], &[3, 1, 0, 0, 2, 1]);
+    refused_raw(comparison, (3, 0), &[1, 2, 2, 1], 5, 21);
+}
+
+/// 11, 18, 12 and 17 are looked for before any word.
+fn raw_lists_before_words(comparison: &mut Comparison) {
+    for (head, number) in [((17, 2), 11), ((3, 2), 18), ((3, 0), 12)] {
+        refused_raw(comparison, head, &[1], 8, number);
+    }
+    for (words, number) in [(127, 12), (128, 14), (129, 12), (130, 17), (131, 12), (132, 17)] {
+        refused_raw(comparison, (1, 0), &vec![u32::MAX; words], 4, number);
+    }
+}
+
+/// 14 is looked for in the terms as they are given, and in all equations before the questions are counted.
+fn raw_terms(comparison: &mut Comparison) {
+    opened_raw(comparison, (1, 0), &[32737, 32737], &[1, 0, 0, 0]);
+    refused_raw(comparison, (1, 0), &[32769, 32769], 4, 14);
+    // 1 = 0, 1 = S(0) and so on to 1 = S20(0); then 2 = 1.
+    let mut raw: Vec<u32> = (0..21).flat_map(|steps| [1, 32 * steps]).collect();
+    refused_raw(comparison, (1, 0), &raw, 46, 13);
+    raw.extend([2, 1]);
+    refused_raw(comparison, (1, 0), &raw, 46, 14);
+}
+
+/// 1 = 1 again and again; 1 = S19(0), 1 = S18(0) and so on to 1 = 0, three times over, and the first four once more.
+fn raw_lists_of_64(comparison: &mut Comparison) {
+    opened_raw(comparison, (1, 0), &[1; 128], &[1, 0, 0, 0]);
+    refused_raw(comparison, (1, 0), &[1; 128], 3, 21);
+    refused_raw(comparison, (1, 0), &[1; 130], 4, 17);
+    refused_raw(comparison, (1, 0), &[1; 131], 4, 12);
+    let raw: Vec<u32> = (0..64).flat_map(|place| [1, 32 * (19 - place % 20)]).collect();
+    let list: Vec<u32> = (0..20).flat_map(|steps| [1, 32 * steps]).collect();
+    for order in ORDERS {
+        opened_raw(comparison, (1, order), &raw, &[&[1, 20, 0, order], &list[..]].concat());
+        refused_raw(comparison, (1, order), &raw, 43, 21);
+    }
 }
