@@ -253,10 +253,10 @@ pub fn with_itself(random: &mut Random, n: u32) -> [u32; 2] {
     [0; 2].map(|_| Term { field, steps: random.below(steps) }.word())
 }
 
-/// How many steps more both sides of an equation can have. Its terms are within the limits.
+/// How many steps more both sides of an equation can have within the limit.
 pub fn spare_steps(pair: [u32; 2]) -> u32 {
     let [a, b] = pair.map(Term::of_word);
-    MOST_STEPS - a.steps.max(b.steps)
+    MOST_STEPS.saturating_sub(a.steps.max(b.steps))
 }
 
 /// An equation with more steps on both sides.

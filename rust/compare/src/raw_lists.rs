@@ -57,13 +57,14 @@ pub const CHANGES: [(Change, &str); 5] = [
     (Change::Shuffled, "a raw list shuffled"),
 ];
 
-/// The raw list with a change. It has good terms and at most 64 equations, and so it will have.
+/// The raw list with a change. What is added stays within the limits.
 pub fn changed(random: &mut Random, raw: &Survey, change: Change) -> Survey {
     let mut pairs = raw.pairs().to_vec();
     match change {
         Change::Doubled | Change::Mixed => {
-            let longer = random.between(pairs.len() as u32, MOST_EQUATIONS as u32) as usize;
-            let length = *random.pick(&[longer, longer, MOST_EQUATIONS]);
+            let most = MOST_EQUATIONS.max(pairs.len());
+            let longer = random.between(pairs.len() as u32, most as u32) as usize;
+            let length = *random.pick(&[longer, longer, most]);
             lengthen(random, raw.n, &mut pairs, length, matches!(change, Change::Doubled));
         }
         Change::Turned => {

@@ -129,7 +129,9 @@ pub fn any_lists(comparison: &mut Comparison, random: &mut Random, cases: u64) {
         let outcome = comparison.call(&raw.open_raw(), &store);
         let number = outcome.answer.number;
         comparison.test("words for every raw equation", number != STORE_TOO_SHORT, || format!("{raw:?}"));
-        let needed = HEADING + if number == 0 { 2 * outcome.store[1] as usize } else { 0 };
+        // No more questions remain than there are equations.
+        let remaining = if number == 0 { raw.questions().min(outcome.store[1] as usize) } else { 0 };
+        let needed = HEADING + 2 * remaining;
         for length in lengths(needed) {
             let expected = if number == 0 && length < needed { STORE_TOO_SHORT } else { number };
             let again = comparison.call(&raw.open_raw(), &lent_words(random, length));
