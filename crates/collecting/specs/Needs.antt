@@ -1,17 +1,16 @@
 -- What the code relies on, and no claim.
 use Prim.Native.Nat.{ℕ, suc, _+_, _*_, _/_, _≤_}
 use mathlib.Core.Path.{_≡_}
-use mathlib.Core.Bool.{Bool, true, false, cond, not, _&&_}
+use mathlib.Core.Bool.{Bool, true, false, cond, not}
 use mathlib.Core.List.{List, [], _∷_}
 use lib.ListN.{length, take, drop}
 use Rattle.terms.specs.declared.limits.TermLimits.{TermLimits}
 use Rattle.terms.specs.declared.term.Equation.{Equation}
 use Rattle.terms.specs.Order.{Order, before}
-use Rattle.terms.specs.Words.{allows}
 use Rattle.collecting.specs.declared.collecting.Collected.{Collected}
 use Rattle.collecting.specs.declared.collecting.Collected.the-variants.{Questions, OutOfLimits}
 use Rattle.raw_lists.specs.Equations.{equations}
-use Rattle.raw_lists.specs.OpenRaw.{all-allowed}
+use Rattle.raw_lists.specs.OpenRaw.{both-allowed, all-allowed}
 use Rattle.raw_lists.specs.Resulting.{with-equation, collected, resulting}
 
 -- how many questions of a list come before q, up to the first that does not
@@ -41,8 +40,8 @@ pub record HasPut (qs : List Equation) (words : List ℕ) (count found : ℕ) : 
 -- what became of one raw equation, and of a raw list
 abbrev pub CollectsOne : Order → TermLimits → Equation → List Equation → ℕ → Collected → List ℕ → Type 0
 CollectsOne order limits e qs count (Questions found) words =
-    ((allows limits (e .left) && allows limits (e .right)) ≡ true) × HasPut (with-equation order e qs) words count found
-CollectsOne order limits e qs count OutOfLimits words = (allows limits (e .left) && allows limits (e .right)) ≡ false
+    (both-allowed limits e ≡ true) × HasPut (with-equation order e qs) words count found
+CollectsOne order limits e qs count OutOfLimits words = both-allowed limits e ≡ false
 
 -- with the first k equations of a raw list collected: what is to come of the rest is what is to come of all
 pub record Collecting (order : Order) (limits : TermLimits) (raw words : List ℕ) (count k : ℕ) : Type 0 where

@@ -91,13 +91,7 @@ fn open_raw_in(
 }
 
 // Opens a store with a raw list, within limits.
-pub fn open_raw_within(
-    limits: Limits,
-    n: u32,
-    order: u32,
-    raw: &[u32],
-    store: &mut [u32],
-) -> RawOpened
+fn open_raw_within(limits: Limits, n: u32, order: u32, raw: &[u32], store: &mut [u32]) -> RawOpened
     ensures { λ r. ⌜ outcome r (now (store .exit)) ≡ spec.open-raw limits n order (now (raw .entry)) (now (store .entry)) ⌝ }
 {
     if limits.terms.field.0 < n {

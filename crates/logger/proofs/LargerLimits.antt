@@ -7,8 +7,7 @@ use native.Mathlib.Omega.{arith}
 use borrow.Author.Tests.{le-leb}
 use lib.ListN.{length}
 use Rattle.logger.specs.SmallerLimits.{Smaller}
-use Rattle.store.specs.declared.answer.Opened.{Opened}
-use Rattle.store.specs.declared.answer.Opened.the-variants.{Accepted, Refused}
+use Rattle.store.specs.declared.answer.Opened.the-variants.{Accepted}
 use Rattle.store.specs.Layout.{field-count, question-count, list-words, question-in}
 use Rattle.store.specs.Open.{question-fault, list-fault, opening, opened, open-store}
 use Rattle.store.specs.Sound.{sound}
@@ -18,7 +17,7 @@ use Rattle.terms.specs.declared.term.Term.{Term}
 use Rattle.terms.specs.Limits.{terms-within}
 use Rattle.terms.specs.Order.{Order, order-of, order-named}
 use Rattle.terms.specs.Words.{allows}
-use Rattle.store.proofs.OpenAccepts.{accepts, both}
+use Rattle.store.proofs.OpenAccepts.{accepts, accepted-opening, both}
 use Rattle.store.proofs.OpenWays.{known-order, accepted}
 use Rattle.store.proofs.SoundFacts.{sound-says, sound-from}
 use Rattle.store.proofs.SoundList.{accepted-allows}
@@ -85,13 +84,9 @@ module _ {limits larger : Limits} (small : Smaller limits larger) where
         (accepted (a .known) larger n list words (omega (arith, a .even)) (omega (arith, a .few, small .questions-in)) refl refl
         (list-accepted small n (order-of (a .known)) list (length list / 2) 0 (a .faultless)) (a .fits)))
 
-    answer-accepted : (o : Opened) (s : List ℕ) → opened o n order list s .answer ≡ Accepted → o ≡ Accepted
-    answer-accepted Accepted s e = refl
-    answer-accepted (Refused f) s e = e
-
     -- An opening that is accepted within the smaller limits is accepted within the larger, and writes the same words.
     pub smaller-opens : (s : List ℕ) → open-store limits n order list s .answer ≡ Accepted → open-store larger n order list s ≡ open-store limits n order list s
     unfolding open-store
     smaller-opens s e =
-        let is = answer-accepted (opening limits n order list (length s)) s e in
+        let is = accepted-opening limits n order list s e in
         ap (λ o. opened o n order list s) (opening-larger (length s) is ∙ sym is)

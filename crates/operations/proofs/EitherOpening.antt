@@ -1,7 +1,7 @@
 -- The handle laws from either opening: one that is accepted leaves what open leaves for a list that it takes, a raw list's being the resulting one; and a refused one
 -- leaves every word.
 use Prim.Native.Nat.{ℕ}
-use mathlib.Core.Path.{_≡_, refl, sym, ap, _∙_}
+use mathlib.Core.Path.{_≡_, refl}
 use mathlib.Core.Logic.{_≢_}
 use mathlib.Core.List.{List}
 use native.Mathlib.Omega.{arith}

@@ -2,9 +2,9 @@
 -- list, since simplifying keeps the limits; and a list that opening takes results in itself, since it ascends and its questions simplify to themselves.
 use Prim.Native.Nat.{ℕ, zero, suc, _+_, _*_, _/_, _<_}
 use mathlib.Core.Path.{_≡_, refl, sym, ap, _∙_}
-use mathlib.Core.Bool.{Bool, true, false, _&&_}
-use mathlib.Core.List.{List, [], _∷_, List·Memᴰ·head, List·Memᴰ·tail, List·Memᴰ·not-nil, List·Memᴰ·cases-cons, Memᴰ·cast}
-use mathlib.Core.Logic.{_↔_, inl, inr}
+use mathlib.Core.Bool.{Bool, true, false}
+use mathlib.Core.List.{List, [], _∷_, List·Memᴰ·head, List·Memᴰ·tail, Memᴰ·cast}
+use mathlib.Core.Logic.{_↔_}
 use native.Mathlib.Omega.{arith}
 use borrow.Author.Tests.{le-leb}
 use lib.ListN.{length}
@@ -28,16 +28,13 @@ use Rattle.terms.proofs.TermKept.{allows-says}
 use Rattle.terms.proofs.TermWords.{simplify-wordy, equation-of-words}
 use Rattle.raw_lists.specs.IsResulting.{In, Ascends, WrittenIn}
 use Rattle.raw_lists.specs.Equations.{equations, words-of}
-use Rattle.raw_lists.specs.OpenRaw.{all-allowed, resulting-list}
+use Rattle.raw_lists.specs.OpenRaw.{both-allowed, all-allowed, resulting-list}
 use Rattle.raw_lists.specs.Resulting.{resulting}
 use Rattle.raw_lists.proofs.EquationWords.{words-of-equations}
 use Rattle.raw_lists.proofs.ExactMembers.{exact-members}
 use Rattle.raw_lists.proofs.ListedWords.{member-at, each-member, ascends-at, ascends-from}
+use Rattle.raw_lists.proofs.RawTerms.{all-allowed-says, all-allowed-from}
 use Rattle.raw_lists.proofs.OneList.{resulting-ascends, resulting-only}
-
--- both terms are within the limits
-abbrev allowed : TermLimits → Equation → Bool
-allowed limits e = allows limits (e .left) && allows limits (e .right)
 
 -- ---- each question
 module _ (order : Order) (limits : TermLimits) (words : List ℕ) where
@@ -62,7 +59,7 @@ module _ (order : Order) (limits : TermLimits) (words : List ℕ) where
           let r = rw (question-fault, accepted-allows order limits words k e, accepted-form k e, i) at e in
           absurd (let z : _≡_ {A = ℕ} 0 1 = cc in omega arith)
 
-  question-accepted : (k : ℕ) → allowed limits (question-in words k) ≡ true → is-simplified (question-in words k) ≡ true → above-last order words k ≡ true
+  question-accepted : (k : ℕ) → both-allowed limits (question-in words k) ≡ true → is-simplified (question-in words k) ≡ true → above-last order words k ≡ true
       → question-fault order limits words k ≡ Accepted
   unfolding question-fault
   question-accepted k a f o = rw (a, f, o)
@@ -74,7 +71,7 @@ module _ (order : Order) (limits : TermLimits) (words : List ℕ) where
 
   -- ---- the list
   -- what opening takes
-  list-taken : Ascends order (equations words) → ((q : Equation) → In q (equations words) → (allowed limits q ≡ true) × (is-simplified q ≡ true))
+  list-taken : Ascends order (equations words) → ((q : Equation) → In q (equations words) → (both-allowed limits q ≡ true) × (is-simplified q ≡ true))
       → list-fault order limits words (length words / 2) 0 ≡ Accepted
   list-taken a each =
       all-accepted (length words / 2) 0 (λ j h.
@@ -89,8 +86,8 @@ module _ (order : Order) (limits : TermLimits) (words : List ℕ) where
     at-place : (j : ℕ) → j < length words / 2 → question-fault order limits words j ≡ Accepted
     at-place j h = each-accepted order limits words (length words / 2) 0 taken j (omega arith) (omega arith)
 
-    taken-allowed : (e : Equation) → In e (equations words) → allowed limits e ≡ true
-    taken-allowed = each-member (λ e. allowed limits e ≡ true) words (λ j h. accepted-allows order limits words j (at-place j h))
+    taken-allowed : (e : Equation) → In e (equations words) → both-allowed limits e ≡ true
+    taken-allowed = each-member (λ e. both-allowed limits e ≡ true) words (λ j h. accepted-allows order limits words j (at-place j h))
 
     taken-form : (e : Equation) → In e (equations words) → simplify e ≡ Question e
     taken-form = each-member (λ e. simplify e ≡ Question e) words
@@ -99,20 +96,7 @@ module _ (order : Order) (limits : TermLimits) (words : List ℕ) where
     taken-ascends : StrictTotal (before order) → Ascends order (equations words)
     taken-ascends total = ascends-from order total words (λ j h. accepted-above (suc j) (at-place (suc j) h))
 
--- ---- the terms of a raw list
-all-allowed-says : (limits : TermLimits) (es : List Equation) → all-allowed limits es ≡ true → (e : Equation) → In e es → allowed limits e ≡ true
-unfolding all-allowed
-all-allowed-says limits [] a e m = absurd (List·Memᴰ·not-nil m)
-all-allowed-says limits (d ∷ es) a e m = elim (List·Memᴰ·cases-cons m) [
-  | inl i ↦ ap (allowed limits) i ∙ first-passes (allowed limits d) (all-allowed limits es) a
-  | inr n ↦ all-allowed-says limits es (second-passes (allowed limits d) (all-allowed limits es) a) e n
-]
-
-pub all-allowed-from : (limits : TermLimits) (es : List Equation) → ((e : Equation) → In e es → allowed limits e ≡ true) → all-allowed limits es ≡ true
-unfolding all-allowed
-all-allowed-from limits [] f = refl
-all-allowed-from limits (e ∷ es) f = rw (f e (List·Memᴰ·head refl)) (all-allowed-from limits es (λ d m. f d (List·Memᴰ·tail m)))
-
+-- ---- a term with steps taken off
 allows-less : (limits : TermLimits) (k : ℕ) (t : Term) → allows limits t ≡ true → allows limits (less-steps k t) ≡ true
 unfolding allows
 allows-less limits k t a =

@@ -3,6 +3,7 @@ pub mod ListedWords
 pub mod ExactMembers
 pub mod OneList
 pub mod Respelling
+pub mod RawTerms
 pub mod AcceptedList
 pub mod OpenRawWays
 pub mod RawAccepts

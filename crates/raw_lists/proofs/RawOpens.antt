@@ -6,11 +6,11 @@ use mathlib.Core.Bool.{true}
 use mathlib.Core.List.{List}
 use native.Mathlib.Omega.{arith}
 use lib.ListN.{length}
-use Rattle.store.specs.declared.answer.Opened.{Opened}
-use Rattle.store.specs.declared.answer.Opened.the-variants.{Accepted, Refused}
-use Rattle.store.specs.Open.{opening, opened-words, opened, open-store}
+use Rattle.store.specs.declared.answer.Opened.the-variants.{Accepted}
+use Rattle.store.specs.Open.{opening, opened-words, open-store}
 use Rattle.store.specs.Sound.{sound}
 use Rattle.store.specs.Layout.{list-words}
+use Rattle.store.proofs.OpenAccepts.{accepted-opening}
 use Rattle.store.proofs.OpenedWords.{opened-list}
 use Rattle.store.proofs.OpenSound.{opened-sound}
 use Rattle.store.proofs.OpenWays.{known-order, accepted, opens}
@@ -51,12 +51,7 @@ module _ (limits : Limits) (n order : ℕ) (raw s : List ℕ) where
   -- ---- what follows of the words
   module _ (o : OpensResulting limits n order raw s) where
     pub resulting-opening : opening limits n order (resulting-list (o .known) raw) (length s) ≡ Accepted
-    unfolding open-store
-    resulting-opening = go (opening limits n order (resulting-list (o .known) raw) (length s)) (ap (λ x. x .answer) (o .as-open))
-      where
-        go : (a : Opened) → opened a n order (resulting-list (o .known) raw) s .answer ≡ Accepted → a ≡ Accepted
-        go Accepted e = refl
-        go (Refused f) e = e
+    resulting-opening = accepted-opening limits n order (resulting-list (o .known) raw) s (ap (λ x. x .answer) (o .as-open))
 
     pub resulting-opened : open-raw limits n order raw s .words ≡ opened-words n order (resulting-list (o .known) raw) (length s)
     unfolding open-store

@@ -6,12 +6,11 @@ use mathlib.Core.List.{List}
 use native.Mathlib.Omega.{arith}
 use borrow.Author.Tests.{le-ltb}
 use lib.ListN.{length}
-use Rattle.store.specs.declared.answer.Opened.{Opened}
-use Rattle.store.specs.declared.answer.Opened.the-variants.{Accepted, Refused}
+use Rattle.store.specs.declared.answer.Opened.the-variants.{Accepted}
 use Rattle.store.specs.Layout.{heading-length}
-use Rattle.store.specs.Open.{opening, opened-words, opened, open-store}
+use Rattle.store.specs.Open.{opened-words, open-store}
 use Rattle.store.specs.Outcome.{Outcome, outcome}
-use Rattle.store.proofs.OpenAccepts.{accepts}
+use Rattle.store.proofs.OpenAccepts.{accepts, accepted-opening}
 use Rattle.terms.specs.declared.limits.Limits.{Limits}
 use Rattle.terms.specs.declared.order.ListOrder.{ListOrder}
 use Rattle.terms.specs.declared.term.Equation.{Equation}
@@ -66,21 +65,13 @@ accepted-taken limits n order raw s e = raw-accepts limits n order raw s e .take
 
 -- ---- a list that open accepts
 module _ (limits : Limits) (n order : ℕ) (list s : List ℕ) where
-  accepted-opening : open-store limits n order list s .answer ≡ Accepted → opening limits n order list (length s) ≡ Accepted
-  unfolding open-store
-  accepted-opening e = go (opening limits n order list (length s)) e
-    where
-      go : (a : Opened) → opened a n order list s .answer ≡ Accepted → a ≡ Accepted
-      go Accepted e = refl
-      go (Refused f) e = e
-
   -- "A list that the old opening accepts gives the same store under both.": accepted, and every word. Limits that allow more than 64 questions would let open take a
   -- list that is 17 here.
   pub opens-alike : limits .questions ≤ most-equations → open-store limits n order list s .answer ≡ Accepted
       → open-raw limits n order list s ≡ outcome raw-answer.Accepted (open-store limits n order list s .words)
   unfolding open-store open-resulting
   opens-alike small e =
-      let o = accepted-opening e in
+      let o = accepted-opening limits n order list s e in
       let a = accepts limits n order list (length s) o in
       let known = a .known in
       let taken : Taken limits n list =

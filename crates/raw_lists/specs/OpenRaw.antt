@@ -22,10 +22,14 @@ use Rattle.raw_lists.specs.Equations.{equations, words-of}
 use Rattle.raw_lists.specs.Limits.{most-equations}
 use Rattle.raw_lists.specs.Resulting.{resulting}
 
--- 14, "field above n or steps above 1,023", of the raw terms: neither term of any raw equation is so
+-- 14 is of the raw terms: neither term of an equation has a field above n or steps above the limit,
+abbrev pub both-allowed : TermLimits → Equation → Bool
+both-allowed limits e = allows limits (e .left) && allows limits (e .right)
+
+-- and so it is with each equation of a raw list, whatever it simplifies to
 unfoldable pub all-allowed : TermLimits → List Equation → Bool
 all-allowed limits [] = true
-all-allowed limits (e ∷ es) = allows limits (e .left) && allows limits (e .right) && all-allowed limits es
+all-allowed limits (e ∷ es) = both-allowed limits e && all-allowed limits es
 
 -- the words of the list that a raw list results in
 abbrev pub resulting-list : ListOrder → List ℕ → List ℕ
@@ -35,7 +39,7 @@ resulting-list order raw = words-of (resulting (order-of order) (equations raw))
 abbrev pub raw-refused : List ℕ → RawFault → Outcome RawOpened
 raw-refused s f = outcome (Refused f) s
 
--- "The limit of 20 counts what remains": 13 and 21 of the resulting list; then "n, q, used, the order, the list, zeros", as open writes them
+-- "The limit of 20 counts what remains": 13 and 21 of the resulting list; then the words that open writes
 unfoldable pub open-resulting : Limits → ℕ → ℕ → List ℕ → List ℕ → Outcome RawOpened
 open-resulting limits n order list s =
     cond (ltb (limits .questions) (length list / 2)) (raw-refused s TooManyQuestions)

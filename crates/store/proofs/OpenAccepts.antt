@@ -15,7 +15,7 @@ use Rattle.store.specs.declared.answer.Opened.the-variants.{Accepted, Re
 use Rattle.store.specs.declared.answer.OpenFault.the-variants.{TooManyFields, UnknownOrder, OddList, TooManyQuestions, TooShort}
 use Rattle.store.specs.Layout.{heading-length}
 use Rattle.terms.specs.Limits.{terms-within}
-use Rattle.store.specs.Open.{list-fault, opening-in, opening}
+use Rattle.store.specs.Open.{list-fault, opening-in, opening, opened, open-store}
 use Rattle.store.specs.Opened.{is-accepted, and-then}
 use Rattle.terms.proofs.Cases.{by-eq, by-lt}
 use Rattle.terms.proofs.OrderNumbers.{known-says}
@@ -60,6 +60,15 @@ accepts limits n order list words e =
     let parts = both _ _ (few .1) in
     let fits = past-lt _ _ (Refused TooShort) _ refl (parts .1) in
     record { fields = fields .0; known = known .0; order-is = known .1; even = halves (length list) (even .0); few = few .0; faultless = parts .0; fits = fits .0 }
+
+-- the operation is accepted where its tests accept
+pub accepted-opening : (limits : Limits) (n order : ℕ) (list s : List ℕ) → open-store limits n order list s .answer ≡ Accepted → opening limits n order list (length s) ≡ Accepted
+unfolding open-store
+accepted-opening limits n order list s = go (opening limits n order list (length s))
+  where
+    go : (o : Opened) → opened o n order list s .answer ≡ Accepted → o ≡ Accepted
+    go Accepted e = refl
+    go (Refused f) e = e
 
 -- an accepted opening has room for what is written, and its number of questions fits a word
 module _ (limits : Limits) (n order : ℕ) (list : List ℕ) (words : ℕ) {o : Opened} (e : o ≡ opening limits n order list words) (a : o ≡ Accepted) where
