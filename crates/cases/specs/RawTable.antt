@@ -63,7 +63,7 @@ raw-doubles-short =
     record { start = s; calls = open-raw 3 0 turned-double ∷ []; expected = answered 21 0 s turned-double ∷ [] }
 
 -- n = 1, 4 words. The test of 14 is on the raw terms: S1024(1) = S1024(1) and 2 = 2 are 14, though they are always. S1023(1) = S1023(1) is always, S(1) = 0 and S(1) = 1 are never,
--- and 64 times 1 = 1 is as many as may be: nothing remains, and no question is a list too.
+-- and 64 times 1 = 1 is as many as may be: nothing remains, and a list of no questions is a list too.
 abbrev raw-dropped : Case
 raw-dropped =
     let s : List ℕ = replicate 4 7 in
@@ -102,6 +102,23 @@ raw-refused-in-turn =
           ∷ answered 14 0 s bad-last ∷ answered 13 0 s (counting 0 21) ∷ answered 21 0 s (counting 0 20) ∷ answered 14 0 s bad-right ∷ [];
     }
 
+-- A store of three words. Each term is tested as it comes, whatever remains of its equation: with n = 2 S1024(2) = S(1), which either way round would leave S1023(2) = 1, is 14; with n = 1
+-- S1024(1) = 0 and S(2) = 0, which are never, either way round, and 2 = 2 between two questions. 65 equations are 17, all different, or all always but the last, which is never.
+abbrev raw-terms : Case
+raw-terms =
+    let s : List ℕ = replicate 3 7 in
+    let between : List ℕ = 1 ∷ 0 ∷ 2 ∷ 2 ∷ 1 ∷ 32 ∷ [] in
+    let dropped : List ℕ = replicate 128 1 ++ 33 ∷ 0 ∷ [] in
+    record {
+      start = s;
+      calls =
+          open-raw 2 0 (32770 ∷ 33 ∷ []) ∷ open-raw 2 0 (33 ∷ 32770 ∷ []) ∷ open-raw 1 0 (32769 ∷ 0 ∷ []) ∷ open-raw 1 0 (0 ∷ 32769 ∷ []) ∷ open-raw 1 0 (34 ∷ 0 ∷ [])
+          ∷ open-raw 1 0 (0 ∷ 34 ∷ []) ∷ open-raw 1 0 between ∷ open-raw 1 0 (counting 0 65) ∷ open-raw 1 0 dropped ∷ [];
+      expected =
+          answered 14 0 s (32770 ∷ 33 ∷ []) ∷ answered 14 0 s (33 ∷ 32770 ∷ []) ∷ answered 14 0 s (32769 ∷ 0 ∷ []) ∷ answered 14 0 s (0 ∷ 32769 ∷ []) ∷ answered 14 0 s (34 ∷ 0 ∷ [])
+          ∷ answered 14 0 s (0 ∷ 34 ∷ []) ∷ answered 14 0 s between ∷ answered 17 0 s (counting 0 65) ∷ answered 17 0 s dropped ∷ [];
+    }
+
 -- n = 1, 64 equations among which there are 20 different questions, each three times, on 44 words.
 abbrev raw-many : Case
 raw-many =
@@ -113,4 +130,4 @@ raw-many =
     }
 
 abbrev pub raw-cases : List Case
-raw-cases = raw-cases-6-to-8 ∷ raw-orders ∷ raw-sorted ∷ raw-doubles ∷ raw-doubles-short ∷ raw-dropped ∷ raw-refused-in-turn ∷ raw-many ∷ []
+raw-cases = raw-cases-6-to-8 ∷ raw-orders ∷ raw-sorted ∷ raw-doubles ∷ raw-doubles-short ∷ raw-dropped ∷ raw-refused-in-turn ∷ raw-terms ∷ raw-many ∷ []

@@ -6,8 +6,10 @@ use mathlib.Core.Logic.{_≢_}
 use mathlib.Core.List.{List}
 use native.Mathlib.Omega.{arith}
 use lib.ListN.{length}
+use Rattle.operations.specs.declared.answer.BuildFault.the-variants.{NotSound}
+use Rattle.operations.specs.declared.answer.Built.the-variants as built-answers
 use Rattle.operations.specs.BooleanLaws.{Formula, BooleanLaw, Worked}
-use Rattle.operations.specs.Handles.{Call, Books, first-books, run, HandleLaw}
+use Rattle.operations.specs.Handles.{Call, answer-to, Books, first-books, run, HandleLaw}
 use Rattle.operations.specs.Kept.{Kept}
 use Rattle.operations.specs.Openings.{Opening, by-list, by-raw-list, opened-by}
 use Rattle.raw_lists.specs.declared.answer.RawFault.{RawFault}
@@ -27,6 +29,7 @@ use Rattle.raw_lists.proofs.RawOpens.{raw-opens, resulting-opening, resulting-o
 use Rattle.raw_lists.proofs.RefusedLeaves.{raw-refused-leaves}
 use Rattle.operations.proofs.FormulaHandles.{kept-boolean-law}
 use Rattle.operations.proofs.HandleLaw.{kept-run, kept-law, opened-kept}
+use Rattle.operations.proofs.NotVacuous.{sound-not-refused}
 
 -- ---- "Number 0 is success."
 fault-number : (f : OpenFault) → open-number (Refused f) ≢ 0
@@ -108,3 +111,7 @@ module _ (limits : Limits) (o : Opening) (s : List ℕ) (e : opened-by limits o 
 
   pub either-boolean-law : (letters : ℕ → ℕ) (f g : Formula) → BooleanLaw f g → (h k : ℕ) (b : Books) → Worked limits letters books f h b → Worked limits letters books g k b → h ≡ k
   either-boolean-law letters f g law h k b w u = kept-boolean-law kept-books {f = f} {g = g} law w u
+
+  -- Of the store of such a run no call answers 22.
+  pub either-never-not-sound : (c : Call) → answer-to limits (books .words) c .answer ≢ built-answers.Refused NotSound
+  either-never-not-sound = sound-not-refused (kept-books .sound)

@@ -28,12 +28,12 @@ module _ (order : ℕ) where
   abbrev three-builds : Books
   three-builds = run store-limits (opened-books 3 order three-equal 22) (build last-equal ∷ build outer-equal ∷ build not-outer ∷ [])
 
-  -- The same with openings between the calls: an accepted one begins the books anew, and one that is refused, for its 17 fields or for its order,
-  -- leaves them.
+  -- The same with openings of both kinds between the calls: an accepted one begins the books anew, and one that is refused, for its 17 fields or for its
+  -- order, leaves them.
   abbrev builds-between : Books
   builds-between = run-steps store-limits (opened-books 3 order three-equal 22)
-      (call (build outer-equal) ∷ reopen (by-list 3 order three-equal) ∷ call (build last-equal) ∷ reopen (by-list 17 order []) ∷ call (build outer-equal) ∷ reopen (by-raw-list 3 2 [])
-      ∷ call (build not-outer) ∷ [])
+      (call (build outer-equal) ∷ reopen (by-list 3 order three-equal) ∷ call (build not-outer) ∷ reopen (by-raw-list 3 order three-equal-raw) ∷ call (build last-equal)
+      ∷ reopen (by-list 17 order []) ∷ reopen (by-list 3 2 []) ∷ call (build outer-equal) ∷ reopen (by-raw-list 17 order []) ∷ reopen (by-raw-list 3 2 []) ∷ call (build not-outer) ∷ [])
 
   -- and with the list as it stood on paper
   abbrev opened-raw : Outcome ℕ

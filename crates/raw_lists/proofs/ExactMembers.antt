@@ -58,7 +58,7 @@ module _ (order : Order) (total : StrictTotal (before order)) where
         go below there i m = inr (rw (with-question, i) at m)
 
     -- q and all that was there are in it
-    pub put-all : (ps : List Equation) → (x ≡ q) ⊎ In x ps → In x (with-question order q ps)
+    put-all : (ps : List Equation) → (x ≡ q) ⊎ In x ps → In x (with-question order q ps)
     unfolding with-question
     put-all [] (inl e) = List·Memᴰ·head e
     put-all [] (inr n) = absurd (List·Memᴰ·not-nil n)
