@@ -55,9 +55,9 @@ two-respelled k e d =
       spells = λ x m. elim (List·Memᴰ·cases-cons m) [
         | inl i ↦ (d, List·Memᴰ·tail (List·Memᴰ·head refl), subst (Spells d) (sym i) (steps-added k as-it-is))
         | inr n ↦ elim (List·Memᴰ·cases-cons n) [
-            | inl i ↦ (e, List·Memᴰ·head refl, subst (Spells e) (sym i) (turned-round as-it-is))
-            | inr o ↦ (d, List·Memᴰ·tail (List·Memᴰ·head refl), subst (Spells d) (sym (the-last o)) as-it-is)
-          ]
+          | inl i ↦ (e, List·Memᴰ·head refl, subst (Spells e) (sym i) (turned-round as-it-is))
+          | inr o ↦ (d, List·Memᴰ·tail (List·Memᴰ·head refl), subst (Spells d) (sym (the-last o)) as-it-is)
+        ]
       ];
     }
   where

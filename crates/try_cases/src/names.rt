@@ -4,7 +4,7 @@ ghost use lib.ListN.{length};
 use crate::lines::byte_at;
 
 // The first letter of what is called; whether it is the logger's own, which a line names as `logger_open` or `logger_build`; and whether it is opening with a
-// raw list, which a line names as `open_raw`: no other name has a line as its fifth byte.
+// raw list, which a line names as `open_raw`: no other name has an underscore as its fifth byte.
 pub struct Name {
     pub letter: u8,
     pub logger: bool,

@@ -237,7 +237,7 @@ fn open_and_compare(mut run: Run, n: u32, order: u32, raw: &[u32], store: &mut [
     }
 }
 
-// One raw list, on a store that is three words too short for what remains of it, or up to six words longer than that takes.
+// One raw list, on a store that is up to three words too short for what remains of it, or up to six longer.
 fn raw_round(met: RawRun) -> RawRun {
     let mut store = [7u32; MOST_STORE];
     let mut run = met.run;

@@ -25,9 +25,10 @@ pub enum Refusal {
     TooManyQuestions = 13,
     /// 14: a field above n or steps above 1,023 in the list.
     ListTerm = 14,
-    /// 15: an equation of the list that isn't a simplified question.
+    /// 15: an equation of the list that isn't a simplified question. [`Store::open_raw`](crate::Store::open_raw) simplifies it.
     NotSimplified = 15,
     /// 16: a question that isn't strictly above the one before it in the list's order.
+    /// [`Store::open_raw`](crate::Store::open_raw) sorts, and leaves doubles out.
     NotAscending = 16,
     /// 17: more than 64 equations for [`Store::open_raw`](crate::Store::open_raw), doubles and what is always or never among them.
     TooManyEquations = 17,

@@ -112,7 +112,7 @@ pub fn open(n: u32, order: u32, list: &[u32], store: &mut [u32]) -> Answer {
 /// ```
 /// use sheet::words;
 ///
-/// // 1 = 2, S(2) = S(1) and 1 = 1 are one question, 2 = 1.
+/// // 1 = 2, S(2) = S(1) and 1 = 1 leave one question, 2 = 1.
 /// let mut store = [7; 6];
 /// assert_eq!(words::open_raw(2, 0, &[1, 2, 34, 33, 1, 1], &mut store).number, 0);
 /// assert_eq!(store, [2, 1, 0, 0, 2, 1]);
