@@ -1,4 +1,4 @@
--- 14 is met exactly if some raw term is beyond the limits, whatever its equation simplifies to: the test goes over the equations one by one.
+-- The test of 14 fails exactly if some raw term is beyond the limits, whatever its equation simplifies to: it goes over the equations one by one.
 use mathlib.Core.Path.{_≡_, refl, ap, _∙_}
 use mathlib.Core.Logic.{_↔_, inl, inr}
 use mathlib.Core.Bool.{true}
@@ -24,7 +24,7 @@ module _ (limits : TermLimits) where
   all-allowed-from [] f = refl
   all-allowed-from (e ∷ es) f = rw (f e (List·Memᴰ·head refl)) (all-allowed-from es (λ d m. f d (List·Memᴰ·tail m)))
 
-  -- No 14 comes of a raw list exactly if both terms of each of its equations are within the limits.
+  -- A raw list passes it exactly if both terms of each of its equations are within the limits.
   pub terms-exactly : (es : List Equation) → (all-allowed limits es ≡ true) ↔ ((e : Equation) → In e es → (allows limits (e .left) ≡ true) × (allows limits (e .right) ≡ true))
   terms-exactly es = (
     λ a e m.

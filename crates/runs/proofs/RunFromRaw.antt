@@ -1,25 +1,21 @@
 -- What holds after an opening in either order and any calls holds after an opening with a raw list: its books are those of open with the resulting list.
 use Prim.Native.Nat.{ℕ}
 use mathlib.Core.Path.{_≡_, sym, ap, subst}
-use mathlib.Core.Logic.{_⊎_}
 use mathlib.Core.Bool.{true}
 use mathlib.Core.List.{List}
 use lib.ListN.{length}
-use Rattle.examples.specs.declared.answer.Example.{Example}
-use Rattle.examples.specs.declared.answer.Example.the-variants.{Written, Refused}
-use Rattle.examples.specs.declared.answer.ExampleFault.the-variants.{Nothing}
 use Rattle.examples.specs.Example.{example}
 use Rattle.examples.specs.ExampleAnswers.{ExampleAnswers}
 use Rattle.operations.specs.Handles.{Call, Pair, Books, first-books, opened-books, run, In}
 use Rattle.raw_lists.specs.declared.answer.RawOpened.the-variants.{Accepted}
 use Rattle.raw_lists.specs.OpenRaw.{resulting-list, open-raw}
 use Rattle.runs.specs.InOrder.{InOrder}
+use Rattle.runs.specs.SheetOrNone.{SheetOrNone}
 use Rattle.runs.specs.RuleExample.{RuleExample}
 use Rattle.store.specs.declared.answer.Opened.the-variants as open-answers
 use Rattle.store.specs.Layout.{is-handle}
 use Rattle.store.specs.Meaning.{meaning}
 use Rattle.store.specs.Open.{opening}
-use Rattle.store.specs.Outcome.{Outcome}
 use Rattle.terms.specs.declared.limits.Limits.{Limits}
 use Rattle.terms.specs.declared.order.ListOrder.{ListOrder}
 use Rattle.terms.specs.Order.{order-number}
@@ -27,9 +23,6 @@ use Rattle.verdicts.specs.Verdict.{verdict}
 use Rattle.verdicts.specs.VerdictSays.{VerdictSays}
 use Rattle.raw_lists.proofs.RawOpens.{opens-in-order, opened-in-order}
 use Rattle.runs.proofs.RunInOrder.{run-in-order, verdict-in-order, example-in-order, example-answered, verdict-of-rule, example-of-rule}
-
-abbrev SheetOrNone : Outcome Example → Type 0
-SheetOrNone o = (o .answer ≡ Written) ⊎ (o .answer ≡ Refused Nothing)
 
 module _ (limits : Limits) (order : ListOrder) (n : ℕ) (raw s : List ℕ) (e : open-raw limits n (order-number order) raw s .answer ≡ Accepted) (calls : List Call) where
   abbrev list : List ℕ

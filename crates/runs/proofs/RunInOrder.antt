@@ -3,13 +3,11 @@
 -- in a sound store they say of the rule.
 use Prim.Native.Nat.{ℕ, _+_}
 use mathlib.Core.Path.{_≡_, refl, sym, ap, _∙_}
-use mathlib.Core.Logic.{_⊎_, inl, inr}
+use mathlib.Core.Logic.{inl, inr}
 use mathlib.Core.Bool.{Bool, true}
 use mathlib.Core.List.{List}
 use borrow.Author.Tests.{lt-ltb, ltb-true, eq-eqb}
 use lib.ListN.{length}
-use Rattle.examples.specs.declared.answer.Example.the-variants.{Written, Refused}
-use Rattle.examples.specs.declared.answer.ExampleFault.the-variants.{Nothing}
 use Rattle.examples.specs.Best.{Best, none, some}
 use Rattle.examples.specs.Example.{given, best-sheet, example}
 use Rattle.examples.specs.ExampleAnswers.{ExampleAnswers}
@@ -18,6 +16,7 @@ use Rattle.operations.specs.Kept.{Kept}
 use Rattle.operations.specs.Later.{Later}
 use Rattle.reading.specs.Sheet.{sheet-counts}
 use Rattle.runs.specs.InOrder.{InOrder}
+use Rattle.runs.specs.SheetOrNone.{SheetOrNone}
 use Rattle.runs.specs.RuleExample.{RuleExample}
 use Rattle.store.specs.declared.answer.Opened.the-variants.{Accepted}
 use Rattle.store.specs.Layout.{field-count, used, leaves, is-handle}
@@ -84,16 +83,14 @@ module _ (limits : Limits) (order : ListOrder) (n : ℕ) (list s : List ℕ) (e 
   example-in-order = example-answers limits (books .words) is
 
   -- with n words lent, a handle of the store's gets a sheet or 52
-  pub example-answered : (handle : ℕ) (out : List ℕ) → is-handle (books .words) handle ≡ true → length out ≡ n
-      → (example limits (books .words) handle out .answer ≡ Written) ⊎ (example limits (books .words) handle out .answer ≡ Refused Nothing)
+  pub example-answered : (handle : ℕ) (out : List ℕ) → is-handle (books .words) handle ≡ true → length out ≡ n → SheetOrNone (example limits (books .words) handle out)
   unfolding example
   example-answered handle out u l = go (best-sheet (books .words) handle) refl
     where
       answer-is : example limits (books .words) handle out ≡ given (best-sheet (books .words) handle) out
       answer-is = rw (is, u, eq-eqb (length out) (field-count (books .words)) (l ∙ sym (run-in-order .fields)))
 
-      go : (b : Best) → best-sheet (books .words) handle ≡ b
-          → (example limits (books .words) handle out .answer ≡ Written) ⊎ (example limits (books .words) handle out .answer ≡ Refused Nothing)
+      go : (b : Best) → best-sheet (books .words) handle ≡ b → SheetOrNone (example limits (books .words) handle out)
       go none d = inr (ap (λ o. o .answer) (answer-is ∙ ap (λ b. given b out) d))
       go (some x) d = inl (ap (λ o. o .answer) (answer-is ∙ ap (λ b. given b out) d))
 

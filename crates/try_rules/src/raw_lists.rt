@@ -65,12 +65,14 @@ fn throw_meant(list: List, many: bool, seed: u64) -> Spelled {
     }
 }
 
-// An equation that is dropped: always, or never.
-fn throw_dropped(seed: u64) -> Spelled {
-    let more = throw(seed, 2);
+// An equation that is dropped: zero or one of n fields with itself, always or, a step apart, never; or it with two steps and zero, never.
+fn throw_dropped(n: u32, seed: u64) -> Spelled {
+    let field = throw(seed, n % 16 + 1);
+    let more = throw(field.seed, 3);
+    let right = if more.number == 2 { 0 } else { field.number };
     Spelled {
-        left: 32 + 32 * more.number,
-        right: 32,
+        left: 32 * more.number + field.number,
+        right: right,
         seed: more.seed,
     }
 }
@@ -110,7 +112,7 @@ fn respelled(meant: Spelled) -> Spelled {
 fn with_thrown(mut raw: Raw, list: List, many: bool) -> Raw {
     let way = throw(raw.seed, 5);
     let meant = if way.number == 0 {
-        throw_dropped(way.seed)
+        throw_dropped(list.n, way.seed)
     } else {
         throw_meant(list, many, way.seed)
     };

@@ -107,8 +107,8 @@ impl Store {
     /// simplified, what is always or never is dropped, doubles are left out, and the rest, up to 20 questions, is sorted into the order
     /// given. There is room for `room` entries, of which 4,096 are the most that can be used.
     ///
-    /// It is proved that the store's questions are exactly those that the equations simplify to, and that [`Store::open`] with these
-    /// questions gives the same store.
+    /// It is proved of the library that the questions are exactly those that the equations simplify to, and that its other opening, given
+    /// these, leaves the same words. So [`Store::open`] with these questions gives the same store.
     ///
     /// ```
     /// use sheet::{Field, Order, Refusal, Store};
