@@ -1,4 +1,6 @@
 // Build, negate, join and choose.
+#![tactic(auto)]
+
 mod calls;
 
 pub use calls::{

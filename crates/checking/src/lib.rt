@@ -1,4 +1,6 @@
 // The check of a table of entries for Definition 28's normal form: six conditions, each tested over the whole table before the next.
+#![tactic(auto)]
+
 mod checking;
 mod differing;
 mod entries;

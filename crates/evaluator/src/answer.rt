@@ -1,6 +1,6 @@
 // Answers: a number and a result.
 
-#[derive(Drop)]
+#[derive(Clone, Copy)]
 pub struct Answer {
     pub number: u32,
     pub result: u32,

@@ -8,7 +8,7 @@ use crate::sound::{has_handle, is_sound};
 use crate::truth::{combined, handle_truth, rule_truth};
 
 // A row of a rule table: its kind and its columns. A call is given by the row that it stands for: 2 build, 3 negate, 4 join, 5 choose.
-#[derive(Drop)]
+#[derive(Clone, Copy)]
 pub struct Row {
     pub kind: u32,
     pub a: u32,

@@ -1,4 +1,6 @@
 // A plain evaluator of what the operations must answer by documents 01 and 02, written apart from them: it calls none of them.
+#![tactic(auto)]
+
 mod adding;
 mod answer;
 mod asking;

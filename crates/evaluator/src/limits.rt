@@ -1,7 +1,7 @@
 // What a store may hold: at the institute, and on the deck logger.
 
 // The largest numbers of fields, of a term's steps, of questions and of entries.
-#[derive(Drop)]
+#[derive(Clone, Copy)]
 pub struct Limits {
     pub fields: u32,
     pub steps: u32,

@@ -3,14 +3,14 @@ ghost use Rattle.std.specs.Prelude.{◌≡◌};
 ghost use Rattle.examples.specs.Example as spec;
 
 // What an example answers: that the sheet was written, or why not.
-#[derive(Drop)]
+#[derive(Clone, Copy)]
 pub enum Example {
     Written,
     Refused(ExampleFault),
 }
 
 // Why no example is written.
-#[derive(Drop)]
+#[derive(Clone, Copy)]
 pub enum ExampleFault {
     NotSound,
     NoHandle,

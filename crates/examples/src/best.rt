@@ -12,7 +12,7 @@ use facts::{Decision, Facts, Sheet, ask, least_sheet, no};
 use store::{LEAVES, entry_of, question_at, wide};
 
 // The least sheet that was found so far, if any.
-#[derive(Drop)]
+#[derive(Clone, Copy)]
 pub struct Best {
     pub found: bool,
     pub sheet: Sheet,

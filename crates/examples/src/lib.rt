@@ -1,4 +1,6 @@
 // The example of a handle: the first sheet that satisfies it.
+#![tactic(auto)]
+
 mod answer;
 mod best;
 mod giving;

@@ -11,7 +11,7 @@ use crate::record::Facts;
 use terms::Equation;
 
 // What the facts say of a question and, where it is open, the facts with it answered yes.
-#[derive(Drop)]
+#[derive(Clone, Copy)]
 pub struct Asked {
     pub decision: Decision,
     pub yes: Facts,

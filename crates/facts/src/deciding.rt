@@ -9,7 +9,7 @@ use crate::record::{Facts, Numbers};
 use terms::{Equation, term_of};
 
 // The class of a term's field, and the term's value above the base of that class.
-#[derive(Drop)]
+#[derive(Clone, Copy)]
 struct Place {
     class: u32,
     side: u32,

@@ -4,7 +4,7 @@ ghost use Rattle.facts.specs.Needs.{Down};
 ghost use Rattle.facts.specs.State as state;
 
 // A question is true under every choice of counts that fits the facts, false under every such choice, or neither.
-#[derive(Drop)]
+#[derive(Clone, Copy)]
 pub enum Decision {
     Always,
     Never,
@@ -12,7 +12,7 @@ pub enum Decision {
 }
 
 // What an answer yes asks for: nothing, the impossible, or that the class `from` becomes part of the class `into`, its base `by` above.
-#[derive(Drop)]
+#[derive(Clone, Copy)]
 pub enum Plan {
     Keep,
     Clash,

@@ -1,7 +1,7 @@
 // A fact: a question and its answer.
 use terms::Equation;
 
-#[derive(Drop)]
+#[derive(Clone, Copy)]
 pub struct Fact {
     pub question: Equation,
     pub answer: bool,

@@ -9,14 +9,14 @@ use crate::working::yes;
 use terms::{Equation, Field, Steps, Term};
 
 // A field's count, and the facts with it.
-#[derive(Drop)]
+#[derive(Clone, Copy)]
 pub struct Fixed {
     pub count: u32,
     pub facts: Facts,
 }
 
 // The counts of a sheet, each at its field's number.
-#[derive(Drop)]
+#[derive(Clone, Copy)]
 pub struct Sheet {
     pub counts: [u32; FIELDS],
 }

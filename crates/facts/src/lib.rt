@@ -1,4 +1,6 @@
 // The facts gathered along a path, and what they force.
+#![tactic(auto)]
+
 mod adding;
 mod asking;
 mod deciding;

@@ -17,7 +17,7 @@ pub type Words = [u32; NOES];
 
 // Each field's class and its offset from the base of the class, and the questions answered no, the first `noes` of the two lists of
 // term words.
-#[derive(Drop)]
+#[derive(Clone, Copy)]
 pub struct Facts {
     pub class: Numbers,
     pub offset: Numbers,

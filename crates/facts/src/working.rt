@@ -11,7 +11,7 @@ use crate::record::{FIELDS, Facts};
 use terms::{Equation, word_of};
 
 // A record, and whether some choice of counts fits it.
-#[derive(Drop)]
+#[derive(Clone, Copy)]
 pub struct Worked {
     pub free: bool,
     pub facts: Facts,

@@ -1,4 +1,6 @@
 // An index over the entries of a store: an equal entry is found, and equal entries are ruled out, in near-linear time.
+#![tactic(auto)]
+
 ghost use Rattle.std.specs.Prelude.{◌≡◌, ◌+◌};
 ghost use Rattle.index.specs.Needs.{EntriesFit, Hash, Indexed, Empty, Searchable, Loaded};
 ghost use Rattle.store.specs.Entries.{find_entry};

@@ -3,7 +3,7 @@ ghost use Rattle.std.specs.Prelude.{◌≡◌};
 ghost use Rattle.normal_form.specs.CheckAnswer as spec;
 
 // What a check answers: the root's verdict, if the table is accepted, or why it is not.
-#[derive(Drop)]
+#[derive(Clone, Copy)]
 pub enum CheckAnswer {
     Never,
     Always,
@@ -12,7 +12,7 @@ pub enum CheckAnswer {
 }
 
 // Why a table is not accepted.
-#[derive(Drop)]
+#[derive(Clone, Copy)]
 pub enum CheckFault {
     BadShape,
     BadTerm,

@@ -1,5 +1,5 @@
 // An entry of a table: the term words of its equation, and the handles of its yes part and its no part.
-#[derive(Drop)]
+#[derive(Clone, Copy)]
 pub struct Entry {
     pub left: u32,
     pub right: u32,

@@ -9,7 +9,7 @@ const MOST_TABLE_STEPS: u32 = 4095;
 pub const MOST_TABLE_ENTRIES: u32 = 4096;
 
 // What a table may hold: the limits of its terms, and the largest number of entries.
-#[derive(Drop)]
+#[derive(Clone, Copy)]
 pub struct TableLimits {
     pub terms: TermLimits,
     pub entries: u32,

@@ -5,14 +5,14 @@ ghost use Rattle.operations.specs.Built as spec;
 use tables::{TableFault, table_fault_number};
 
 // What the four operations answer: the handle of the finished diagram, or why there is none.
-#[derive(Drop)]
+#[derive(Clone, Copy)]
 pub enum Built {
     Handle(u32),
     Refused(BuildFault),
 }
 
 // Why no diagram is added.
-#[derive(Drop)]
+#[derive(Clone, Copy)]
 pub enum BuildFault {
     NotSound,
     NoHandle,

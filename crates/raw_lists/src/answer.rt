@@ -3,14 +3,14 @@ ghost use Rattle.std.specs.Prelude.{◌≡◌};
 ghost use Rattle.raw_lists.specs.RawOpened as spec;
 
 // What opening with a raw list answers: that the store was written, or why not.
-#[derive(Drop)]
+#[derive(Clone, Copy)]
 pub enum RawOpened {
     Accepted,
     Refused(RawFault),
 }
 
 // A rule that is broken. No equation is refused for its form or its place, so two of opening's faults are none here.
-#[derive(Drop)]
+#[derive(Clone, Copy)]
 pub enum RawFault {
     TooManyFields,
     UnknownOrder,

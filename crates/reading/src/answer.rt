@@ -3,14 +3,14 @@ ghost use Rattle.std.specs.Prelude.{◌≡◌};
 ghost use Rattle.reading.specs.Read as spec;
 
 // What reading answers: whether the sheet satisfies the handle, or why it was not read.
-#[derive(Drop)]
+#[derive(Clone, Copy)]
 pub enum Read {
     Satisfies(bool),
     Refused(ReadFault),
 }
 
 // Why a sheet is not read.
-#[derive(Drop)]
+#[derive(Clone, Copy)]
 pub enum ReadFault {
     NotSound,
     NoHandle,

@@ -1,4 +1,6 @@
 // Reading a sheet against a handle.
+#![tactic(auto)]
+
 mod answer;
 mod reading;
 

@@ -13,7 +13,7 @@ use writing::{Written, written_number, written_result};
 
 // A number and a result.
 #[repr(C)]
-#[derive(Drop)]
+#[derive(Clone, Copy)]
 pub struct Answer {
     pub number: u32,
     pub result: u32,

@@ -1,4 +1,6 @@
 // Whether a store is sound: the test that every later operation makes first.
+#![tactic(auto)]
+
 ghost use Rattle.std.specs.Prelude.{◌≡◌, ◌+◌, ◌<◌, drop};
 ghost use Rattle.index.specs.Needs.{EntriesFit};
 ghost use Rattle.soundness.specs.Needs.{numbers_sound, body_sound, NamesEntry};

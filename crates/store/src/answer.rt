@@ -3,14 +3,14 @@ ghost use Rattle.std.specs.Prelude.{◌≡◌};
 ghost use Rattle.store.specs.Opened as spec;
 
 // What opening answers: that the store was written, or why not.
-#[derive(Drop)]
+#[derive(Clone, Copy)]
 pub enum Opened {
     Accepted,
     Refused(OpenFault),
 }
 
 // A rule that what opening is given breaks: the number of fields, the order, the list, or the store that is lent for it.
-#[derive(Drop)]
+#[derive(Clone, Copy)]
 pub enum OpenFault {
     TooManyFields,
     UnknownOrder,

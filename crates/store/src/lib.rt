@@ -1,4 +1,6 @@
 // The store: its layout, its soundness, and opening it.
+#![tactic(auto)]
+
 mod answer;
 mod entries;
 mod opening;

@@ -3,14 +3,14 @@ ghost use Rattle.std.specs.Prelude.{◌≡◌};
 ghost use Rattle.tables.specs.TableFault as spec;
 
 // What a test of a table answers: that nothing is wrong, or the first fault.
-#[derive(Drop)]
+#[derive(Clone, Copy)]
 pub enum Checked {
     Fine,
     Refused(TableFault),
 }
 
 // A rule that a table breaks.
-#[derive(Drop)]
+#[derive(Clone, Copy)]
 pub enum TableFault {
     NoWords,
     NotRows,

@@ -6,14 +6,14 @@ use crate::row::Row;
 use terms::{Equation, term_of};
 
 // What a choice is made of: a leaf, or a lower row.
-#[derive(Drop)]
+#[derive(Clone, Copy)]
 pub enum Part {
     Leaf(bool),
     Row(u32),
 }
 
 // A leaf, an equation, or if the first part then the second else the third.
-#[derive(Drop)]
+#[derive(Clone, Copy)]
 pub enum Shape {
     Leaf(bool),
     Equation(Equation),

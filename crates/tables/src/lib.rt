@@ -1,4 +1,6 @@
 // Rule tables: their rows, what they mean, and which of them build takes.
+#![tactic(auto)]
+
 mod answer;
 mod decoding;
 mod faults;

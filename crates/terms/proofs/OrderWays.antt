@@ -12,7 +12,7 @@ use Rattle.terms.specs.declared.order.ListOrder.TheVariants.{FieldsFirst, LeftFi
 use Rattle.terms.specs.declared.order.NamedOrder.TheVariants.{Known, Unknown}
 use Rattle.terms.specs.declared.term.Equation.{Equation}
 use Rattle.terms.specs.Needs.{compared_numbers}
-use Rattle.terms.specs.Order.{lex, fields_first, left_first, before, order_of, order_named}
+use Rattle.terms.specs.Order.{order_number, lex, fields_first, left_first, before, order_of, order_named}
 use Rattle.terms.proofs.OrderNumbers.{number_names, unknown_number}
 use Rattle.terms.proofs.QuestionOrder.{lex_equal}
 
@@ -60,4 +60,4 @@ module _ {k : ℕ} where
   names_left_first e = sym (ap order_named e ∙ number_names LeftFirst)
 
   pub names_none : k ≢ 0 → k ≢ 1 → Unknown ≡ order_named k
-  names_none m n = sym (unknown_number k (λ order. elim order [ FieldsFirst ↦ m | LeftFirst ↦ n ]))
+  names_none m n = sym (unknown_number k (λ order. elim order as (λ o. k ≢ order_number o) [ FieldsFirst ↦ m | LeftFirst ↦ n ]))

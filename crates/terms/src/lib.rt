@@ -1,4 +1,6 @@
 // Terms, equations of two terms, simplifying them, and the orders of questions.
+#![tactic(auto)]
+
 mod limits;
 mod order;
 mod question;

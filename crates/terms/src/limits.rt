@@ -21,14 +21,14 @@ const LOGGER_QUESTIONS: u32 = 8;
 const LOGGER_ENTRIES: u32 = 200;
 
 // The largest field number and the largest step count that a term may have.
-#[derive(Drop)]
+#[derive(Clone, Copy)]
 pub struct TermLimits {
     pub field: Field,
     pub steps: Steps,
 }
 
 // What a store may hold: the limits of its terms, and the largest numbers of questions and of entries.
-#[derive(Drop)]
+#[derive(Clone, Copy)]
 pub struct Limits {
     pub terms: TermLimits,
     pub questions: u32,

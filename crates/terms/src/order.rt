@@ -6,21 +6,21 @@ ghost use Rattle.terms.specs.Order as spec;
 use crate::term::Equation;
 
 // An order in which the questions of a list can stand: document 01's, or that of the older books.
-#[derive(Drop)]
+#[derive(Clone, Copy)]
 pub enum ListOrder {
     FieldsFirst,
     LeftFirst,
 }
 
 // The order that a word names, if it names one.
-#[derive(Drop)]
+#[derive(Clone, Copy)]
 pub enum NamedOrder {
     Known(ListOrder),
     Unknown,
 }
 
 // The numbers of an equation that an order compares, in turn.
-#[derive(Drop)]
+#[derive(Clone, Copy)]
 struct Compared {
     first: u32,
     second: u32,

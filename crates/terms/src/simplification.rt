@@ -8,7 +8,7 @@ use crate::limits::{TermLimits, term_limits};
 use crate::term::{Equation, Steps, Term, allows, term_of, word_of};
 
 // What an equation of two terms simplifies to.
-#[derive(Drop)]
+#[derive(Clone, Copy)]
 pub enum Guard {
     Never,
     Always,
@@ -16,7 +16,7 @@ pub enum Guard {
 }
 
 // The answer of simplify: a question's two term words and its gap, right steps minus left steps.
-#[derive(Drop)]
+#[derive(Clone, Copy)]
 pub enum Simplified {
     Refused,
     Never,
@@ -26,7 +26,7 @@ pub enum Simplified {
 
 // An answer in document 01's numbers, laid out as C reads it.
 #[repr(C)]
-#[derive(Drop)]
+#[derive(Clone, Copy)]
 pub struct SimplifyAnswer {
     pub number: u32,
     pub result: u32,

@@ -5,22 +5,22 @@ ghost use Rattle.terms.specs.Words as words;
 use crate::limits::TermLimits;
 
 // The number of a field. 0 stands for zero.
-#[derive(Drop)]
+#[derive(Clone, Copy)]
 pub struct Field(pub u32);
 
 // The number of steps that a term adds to its field's count.
-#[derive(Drop)]
+#[derive(Clone, Copy)]
 pub struct Steps(pub u32);
 
 // A field's count plus a number of steps.
-#[derive(Drop)]
+#[derive(Clone, Copy)]
 pub struct Term {
     pub field: Field,
     pub steps: Steps,
 }
 
 // Two terms that are said to be equal.
-#[derive(Drop)]
+#[derive(Clone, Copy)]
 pub struct Equation {
     pub left: Term,
     pub right: Term,

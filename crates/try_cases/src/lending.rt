@@ -1,7 +1,7 @@
 // What the calls are lent: the words of a store, and how long a slice for an answer is.
 use crate::lines::{MOST_NUMBERS, NO_BAR, Numbers};
 
-#[derive(Drop)]
+#[derive(Clone, Copy)]
 pub struct Lent {
     pub words: [u32; MOST_NUMBERS],
     pub length: usize,

@@ -25,7 +25,7 @@ pub fn byte_at(text: &[u8], place: usize) -> u8 {
 pub const MOST_NUMBERS: usize = 136;
 
 // The numbers of a line, how many there are, and how many stand before the bar; NO_BAR if there is none.
-#[derive(Drop)]
+#[derive(Clone, Copy)]
 pub struct Numbers {
     pub words: [u32; MOST_NUMBERS],
     pub count: usize,

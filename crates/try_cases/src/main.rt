@@ -1,5 +1,7 @@
 // Runs the documents' cases, which stand on standard input, and prints what each call answers: the line of the call, after a colon the answer's
 // numbers, and whether the evaluator agrees.
+#![tactic(auto)]
+
 mod asking;
 mod calls;
 mod changing;

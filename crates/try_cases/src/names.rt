@@ -5,7 +5,7 @@ use crate::lines::byte_at;
 
 // The first letter of what is called; whether it is the logger's own, which a line names as `logger_open` or `logger_build`; and whether it is opening with a
 // raw list, which a line names as `open_raw`: no other name has an underscore as its fifth byte.
-#[derive(Drop)]
+#[derive(Clone, Copy)]
 pub struct Name {
     pub letter: u8,
     pub logger: bool,

@@ -1,7 +1,7 @@
 // A run that does the same at the institute and on the logger, and what the two came to.
 use crate::run::{Run, agree};
 
-#[derive(Drop)]
+#[derive(Clone, Copy)]
 pub struct Both {
     pub run: Run,
     // whether the two stores at hand are still to be alike

@@ -27,7 +27,7 @@ pub fn throw_handle(seed: u64, store: &[u32]) -> Thrown {
 }
 
 // A call with a table for it, and the seed after both.
-#[derive(Drop)]
+#[derive(Clone, Copy)]
 struct Next {
     table: Table,
     call: Row,

@@ -1,7 +1,7 @@
 // Numbers that look thrown, the same at each run. What is thrown comes with the seed of what is thrown next.
 ghost use Rattle.std.specs.Prelude.{◌≤◌};
 
-#[derive(Drop)]
+#[derive(Clone, Copy)]
 pub struct Thrown {
     pub number: u32,
     pub seed: u64,

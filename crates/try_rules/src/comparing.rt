@@ -7,7 +7,7 @@ use sheet::{Answer, sheet_build, sheet_choose, sheet_join, sheet_logger_build, s
 pub const MOST_WORDS: usize = 1024;
 
 // What a call answered, and the run in which it was compared.
-#[derive(Drop)]
+#[derive(Clone, Copy)]
 pub struct Tried {
     pub run: Run,
     pub answer: Answer,

@@ -4,7 +4,7 @@ ghost use Rattle.std.specs.Prelude.{◌<◌};
 use evaluator::{HEADING, asked_by, part, put, put_entry, questions, write_opened};
 
 // What a store is for: its fields, its questions, at least four, and its order.
-#[derive(Drop)]
+#[derive(Clone, Copy)]
 pub struct Form {
     pub n: u32,
     pub questions: u32,
@@ -41,7 +41,7 @@ fn write_heading(store: &mut [u32], form: Form, used: u32) {
 }
 
 // An entry's words.
-#[derive(Drop)]
+#[derive(Clone, Copy)]
 struct Entry(u32, u32, u32);
 
 // The j-th pair of two different handles, of which each has so many others.

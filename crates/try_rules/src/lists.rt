@@ -5,7 +5,7 @@ use crate::chance::{Thrown, throw, throw_from};
 use evaluator::{field, is_question};
 
 // A list's number of fields, its order, its words, and how many of them there are: up to eight questions, or too many. And the seed after it.
-#[derive(Drop)]
+#[derive(Clone, Copy)]
 pub struct List {
     pub n: u32,
     pub order: u32,
@@ -15,7 +15,7 @@ pub struct List {
 }
 
 // Two terms.
-#[derive(Drop)]
+#[derive(Clone, Copy)]
 struct Pair {
     left: u32,
     right: u32,

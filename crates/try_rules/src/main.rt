@@ -1,4 +1,6 @@
 // Runs generated lists of questions, rules and calls, stores that are not sound, and the limits, against a plain evaluator.
+#![tactic(auto)]
+
 mod asking;
 mod both;
 mod calls;

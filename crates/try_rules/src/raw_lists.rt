@@ -20,7 +20,7 @@ const MOST_THROWN_WORDS: usize = 2 * MOST_THROWN as usize;
 const MOST_STORE: usize = HEADING + MOST_THROWN_WORDS + 8;
 
 // A raw list with its number of fields and its order, and how many words it has.
-#[derive(Drop)]
+#[derive(Clone, Copy)]
 struct Raw {
     n: u32,
     order: u32,
@@ -30,7 +30,7 @@ struct Raw {
 }
 
 // An equation, and the seed after it.
-#[derive(Drop)]
+#[derive(Clone, Copy)]
 struct Spelled {
     left: u32,
     right: u32,
@@ -175,7 +175,7 @@ fn spoil_raw(mut raw: Raw) -> Raw {
 }
 
 // A run over raw lists, and what it met: 17; 14 though there were more than 20 questions, for which 13 has to wait; and an accepted list of which nothing remains.
-#[derive(Drop)]
+#[derive(Clone, Copy)]
 pub struct RawRun {
     pub run: Run,
     pub too_many: u32,

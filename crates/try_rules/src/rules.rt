@@ -3,7 +3,7 @@ use crate::chance::{Thrown, throw, throw_from};
 use evaluator::{MOST_STEPS, Row, left_of, questions, right_of, row_of};
 
 // A table of up to sixteen rows, how many of its words there are, and the seed after it.
-#[derive(Drop)]
+#[derive(Clone, Copy)]
 pub struct Table {
     pub words: [u32; 64],
     pub length: u32,
@@ -11,7 +11,7 @@ pub struct Table {
 }
 
 // A row, and the seed after it.
-#[derive(Drop)]
+#[derive(Clone, Copy)]
 struct Line {
     row: Row,
     seed: u64,

@@ -1,5 +1,5 @@
 // A run so far: the seed of what is thrown next, what was compared, and the ledger of the store at hand.
-#[derive(Drop)]
+#[derive(Clone, Copy)]
 pub struct Run {
     pub seed: u64,
     pub compared: u64,

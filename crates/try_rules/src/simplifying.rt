@@ -8,7 +8,7 @@ use sheet::sheet_simplify;
 use terms::SimplifyAnswer;
 
 // A sheet of small counts in all sixteen fields, and the seed after it.
-#[derive(Drop)]
+#[derive(Clone, Copy)]
 struct Sheet {
     counts: [u16; 16],
     seed: u64,

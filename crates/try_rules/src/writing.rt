@@ -10,7 +10,7 @@ use evaluator::{
 use sheet::{sheet_build, sheet_write_back};
 
 // What was written back into words that were all 7, and the answer.
-#[derive(Drop)]
+#[derive(Clone, Copy)]
 pub struct Written {
     pub number: u32,
     pub rows: u32,

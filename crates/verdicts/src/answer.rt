@@ -3,7 +3,7 @@ ghost use Rattle.std.specs.Prelude.{◌≡◌};
 ghost use Rattle.verdicts.specs.Verdict as spec;
 
 // What a verdict answers: whether no, every, or some but not every choice of counts satisfies the handle, or why it was not asked.
-#[derive(Drop)]
+#[derive(Clone, Copy)]
 pub enum Verdict {
     Never,
     Always,
@@ -12,7 +12,7 @@ pub enum Verdict {
 }
 
 // Why a verdict is not given.
-#[derive(Drop)]
+#[derive(Clone, Copy)]
 pub enum VerdictFault {
     NotSound,
     NoHandle,

@@ -10,7 +10,7 @@ use facts::{Decision, Facts, ask, no};
 use store::{LEAVES, entry_of, question_at, wide};
 
 // Whether some sheet that fits the facts reaches the leaf never, and whether some reaches the leaf always.
-#[derive(Drop)]
+#[derive(Clone, Copy)]
 pub struct Leaves {
     pub never: bool,
     pub always: bool,

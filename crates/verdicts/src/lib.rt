@@ -1,4 +1,6 @@
 // The verdict of a handle: which leaves some sheet reaches.
+#![tactic(auto)]
+
 mod answer;
 mod deciding;
 mod leaves;

@@ -1,4 +1,6 @@
 // The walk that finishes a diagram and adds it to a store.
+#![tactic(auto)]
+
 mod handles;
 mod placing;
 mod recursion;

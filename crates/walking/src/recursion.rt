@@ -15,7 +15,7 @@ use store::{Entry, question_at, wide};
 use terms::Limits;
 
 // What a walk finishes a diagram for, and within which limits.
-#[derive(Drop)]
+#[derive(Clone, Copy)]
 pub struct Goal {
     pub limits: Limits,
     pub subject: Subject,

@@ -9,7 +9,7 @@ use operations::Built;
 use store::{Opened, open};
 
 // The handles of two rules joined both ways round, where every call is accepted.
-#[derive(Drop)]
+#[derive(Clone, Copy)]
 pub enum Joins {
     Both { one: u32, other: u32 },
     Refused,

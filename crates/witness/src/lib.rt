@@ -1,4 +1,6 @@
 // A witness in code that the handle law speaks of what the functions do.
+#![tactic(auto)]
+
 mod joining;
 
 pub use joining::{Joins, join_both_ways};

@@ -3,14 +3,14 @@ ghost use Rattle.std.specs.Prelude.{◌≡◌};
 ghost use Rattle.writing.specs.WriteBack as spec;
 
 // What writing back answers: the count of rows, or why nothing was written.
-#[derive(Drop)]
+#[derive(Clone, Copy)]
 pub enum Written {
     Rows(u32),
     Refused(WriteFault),
 }
 
 // Why a handle is not written back.
-#[derive(Drop)]
+#[derive(Clone, Copy)]
 pub enum WriteFault {
     NotSound,
     NoHandle,

@@ -1,4 +1,6 @@
 // Writing a handle back as a rule table.
+#![tactic(auto)]
+
 mod answer;
 mod marking;
 mod rows;

@@ -1,0 +1,7 @@
+-- `put_entry` is safe and ends:
+use native.Mathlib.Omega.{arith}
+use lib.ListN.{length-set}
+use Rattle.evaluator.proofs.entries.put_entry.Goals as goal
+
+pub bounds-store-place-then-place-store : goal.bounds-store-place-then-place-store
+bounds-store-place-then-place-store c = simp length-set (omega arith)
