@@ -14,6 +14,3 @@ pub mod DecideWays
 pub mod HeldFacts
 pub mod LeastWays
 pub mod Examples
-pub mod LentLocal
-pub mod RecordLent
-pub mod AddOnLocal
