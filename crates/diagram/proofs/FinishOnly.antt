@@ -61,7 +61,7 @@ parts_node k y n y' n' ey en d = parts_cases (λ t. node k y n ≡ t) k y' n' (�
 parts_same : (k : ℕ) (t y n : Tree) → t ≡ y → t ≡ n → t ≡ parts k y n
 parts_same k t y n ey en = parts_cases (λ u. t ≡ u) k y n (λ _. ey) (λ d. absurd (d (sym ey ∙ en)))
 
-pub finished_only : {qs : List Equation} {k : ℕ} {xs : List Fact} {means : Valuation → Bool} {t : Tree} → Finished means qs k xs t → free (state_of xs) ≡ true
+pub finished_only : {means : Valuation → Bool} {qs : List Equation} {k : ℕ} {xs : List Fact} {t : Tree} → Finished means qs k xs t → free (state_of xs) ≡ true
     → t ≡ finish qs k (state_of xs) means
 unfolding finish
 finished_only {means = means} (last {xs = xs} f) t = ap leaf (sym (f (some_sheet (state_of xs)) (free_fits xs t)))
