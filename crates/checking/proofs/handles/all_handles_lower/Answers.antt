@@ -1,0 +1,16 @@
+use borrow.Author.Rules.{rules}
+use Prim.Native.Nat.{◌-◌}
+use Rattle.checking.proofs.PassWays.{passed_none, passed_by, fails_by, all_passed}
+use Rattle.checking.proofs.handles.all_handles_lower.Goals as goal
+
+pub loop-i-init : goal.loop-i-init
+loop-i-init c = search (rules, passed_none)
+
+pub loop-i-preserved : goal.loop-i-preserved
+loop-i-preserved c = search (rules, passed_by)
+
+pub returns-else-handles_lower : goal.returns-else-handles_lower
+returns-else-handles_lower c = search (rules, fails_by)
+
+pub returns : goal.returns
+returns c = search (rules, all_passed)

@@ -1,0 +1,9 @@
+-- `mark_down` meets its contract: each turn does one entry of the pass, from the last down.
+use Rattle.checking.proofs.MarkWays.{Marking}
+use Rattle.checking.proofs.marking.mark_down.Given as goal
+
+abbrev pub invariant-loop-k : goal.invariant-loop-k
+invariant-loop-k l = Marking l.t l.root l.count l.marks l.k
+
+abbrev pub decreases-loop-k : goal.decreases-loop-k
+decreases-loop-k l = l.k
