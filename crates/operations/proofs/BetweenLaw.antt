@@ -35,7 +35,7 @@ kept_step {limits} {b} k (reopen o) = kept_reopened limits b o k
 kept_steps : {limits : Limits} {b : Books} → Kept limits b → (steps : List Step) → Kept limits (run_steps limits b steps)
 unfolding run_steps
 kept_steps k [] = k
-kept_steps k (x ∷ xs) = kept_steps (kept_step k x) xs
+kept_steps {limits = limits} {b = b} k (x ∷ xs) = kept_steps {b = after_step limits b x} (kept_step k x) xs
 
 -- "Calls that leave the store as it is may come between.": the handle law after any such list, from either opening
 pub law_between : (limits : Limits) (o : Opening) (s : List ℕ) → (opened_by limits o s).answer ≡ 0

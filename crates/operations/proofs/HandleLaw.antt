@@ -93,7 +93,7 @@ kept_after {limits} {b} k c =
 pub kept_run : {limits : Limits} {b : Books} → Kept limits b → (calls : List Call) → Kept limits (run limits b calls)
 unfolding run
 kept_run k [] = k
-kept_run k (c ∷ cs) = kept_run (kept_after k c) cs
+kept_run {limits = limits} {b = b} k (c ∷ cs) = kept_run {b = after limits b c} (kept_after k c) cs
 
 -- ---- the law
 pub kept_law : {limits : Limits} {b : Books} → Kept limits b → HandleLaw b.ledger
