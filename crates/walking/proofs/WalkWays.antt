@@ -1,11 +1,9 @@
 -- What the walk is on each way through the code: the value, the decision and the answers on that way decide its own tests.
 use Prim.Native.Nat.{ℕ, suc, ◌+◌, ◌-◌}
-use mathlib.Core.Path.{◌≡◌, sym, ap, ◌∙◌}
+use mathlib.Core.Path.{◌≡◌, refl, sym, ap, ◌∙◌}
 use mathlib.Core.Logic.{◌≢◌}
 use mathlib.Core.List.{List, [], ◌∷◌}
 use native.Mathlib.Omega.{arith}
-use denote.Enum.Declared.{tag_of}
-use types.Run.{OneOf, miss}
 use Rattle.diagram.specs.declared.placing.Placed.{Placed}
 use Rattle.diagram.specs.declared.placing.Placed.TheVariants.{At, Full}
 use Rattle.diagram.specs.Insert.{then_place}
@@ -23,17 +21,13 @@ use Rattle.walking.specs.declared.subject.Subject.{Subject}
 use Rattle.walking.specs.Needs.{leaf_of}
 use Rattle.walking.specs.Value.{subject_value}
 use Rattle.walking.specs.Walk.{place_parts, walk}
-use Rattle.facts.specs.contracts.decision.Decision.{the_type}
 use Rattle.walking.proofs.WalkCalls.{Asking}
 
--- the numbers of the cases that are not open
-abbrev known : List ℕ
-known = 0 ∷ 1 ∷ []
-
-by_known : (P : Decision → Type 0) → P Always → P Never → (d : Decision) → OneOf known (tag_of the_type d) → P d
+-- a decision that is not open is one of the two others
+by_known : (P : Decision → Type 0) → P Always → P Never → (d : Decision) → d ≢ Open → P d
 by_known P a n Always h = a
 by_known P a n Never h = n
-by_known P a n Open h = absurd (miss known 2 tt h)
+by_known P a n Open h = absurd (h refl)
 
 module _ (limits : Limits) (s source : List ℕ) (subject : Subject) (k : ℕ) (st : State) where
   -- ---- a leaf
@@ -44,13 +38,13 @@ module _ (limits : Limits) (s source : List ℕ) (subject : Subject) (k : ℕ) (
   last_leaf Open e = rw (← e, walk)
 
   module _ (left : ℕ) where
-    known_leaf : (v : Decision) → OneOf known (tag_of the_type v) → v ≡ subject_value s source subject st → outcome (leaf_of v) s ≡ walk limits s source subject (suc left) k st
+    known_leaf : (v : Decision) → v ≢ Open → v ≡ subject_value s source subject st → outcome (leaf_of v) s ≡ walk limits s source subject (suc left) k st
     unfolding walk
     known_leaf = by_known (λ v. v ≡ subject_value s source subject st → outcome (leaf_of v) s ≡ walk limits s source subject (suc left) k st)
         (λ e. rw (← e, walk)) (λ e. rw (← e, walk))
 
     module _ (open_value : subject_value s source subject st ≡ Open) where
-      known_skips : (d : Decision) → OneOf known (tag_of the_type d) → d ≡ decide st (question s k)
+      known_skips : (d : Decision) → d ≢ Open → d ≡ decide st (question s k)
           → walk limits s source subject (suc left) k st ≡ walk limits s source subject left (k + 1) st
       unfolding walk
       known_skips = by_known (λ d. d ≡ decide st (question s k) → walk limits s source subject (suc left) k st ≡ walk limits s source subject left (k + 1) st)
@@ -72,10 +66,10 @@ module _ (limits : Limits) (s source : List ℕ) (subject : Subject) (f : Facts)
   on_last e ep = rw (e, ep) (last_leaf limits s source subject k (state f) v ev)
 
   module _ (more : left ≢ 0) where
-    pub on_known : {p : Placed} → OneOf known (tag_of the_type v) → p ≡ leaf_of v → outcome p s ≡ walk limits s source subject left k (state f)
+    pub on_known : {p : Placed} → v ≢ Open → p ≡ leaf_of v → outcome p s ≡ walk limits s source subject left k (state f)
     on_known h ep = rw (more_left left more, ep) (known_leaf limits s source subject k (state f) (left - 1) v h ev)
 
-    pub on_skip : {q : Equation} {a : Asked} {r : Placed} {s₁ : List ℕ} → v ≡ Open → q ≡ question s k → AskedOf f q a → OneOf known (tag_of the_type a.decision)
+    pub on_skip : {q : Equation} {a : Asked} {r : Placed} {s₁ : List ℕ} → v ≡ Open → q ≡ question s k → AskedOf f q a → a.decision ≢ Open
         → outcome r s₁ ≡ walk limits s source subject (left - 1) (k + 1) (state f) → outcome r s₁ ≡ walk limits s source subject left k (state f)
     on_skip {a = a} ov eq asked h e = rw (more_left left more)
         (e ∙ sym (known_skips limits s source subject k (state f) (left - 1) (sym ev ∙ ov) a.decision h (asked.decision_is ∙ ap (decide (state f)) eq)))

@@ -4,4 +4,4 @@ use lib.Dec.{eqb}
 use Rattle.reading.proofs.reading.truth_of.Goals as goal
 
 pub returns : goal.returns
-returns c = ap₂ eqb c.value_of_lem.ensures c.value_of-2.ensures
+returns c = ap₂ eqb c.value_of.ensures c.value_of-2.ensures

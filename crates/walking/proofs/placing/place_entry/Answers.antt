@@ -28,8 +28,8 @@ append-requires c =
 
 pub put-requires : goal.put-requires
 put-requires c =
-    can_put c.requires (c.wide-entries.ensures ∙ c.used.ensures) c.room.ensures c.if-entries-room.true
-    c.entries_start-start.ensures _ c.append.ensures
+    let p = can_put c.requires (c.wide-entries.ensures ∙ c.used.ensures) c.room.ensures c.if-entries-room.true
+    c.entries_start-start.ensures _ c.append.ensures in record { entries_fit = p.0; indexed = p.1 }
 
 pub returns-then-entries-room : goal.returns-then-entries-room
 returns-then-entries-room c =
