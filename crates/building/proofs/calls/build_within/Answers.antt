@@ -8,16 +8,16 @@ table_fault-checked-requires c =
 
 pub add-requires : goal.add-requires
 add-requires c =
-    can_build _ _ c.is_sound.ensures c.if-is_sound.true _ c.table_fault-checked.ensures c.enum_told-1.given.1
+    can_build _ _ c.is_sound.ensures c.if-is_sound.true _ c.table_fault-checked.ensures c.in_default.is
     c.requires
 
 pub returns-in_default : goal.returns-in_default
 returns-in_default c =
-    builds _ _ c.is_sound.ensures c.if-is_sound.true _ c.table_fault-checked.ensures c.enum_told-1.given.1 c.add.ensures
+    builds _ _ c.is_sound.ensures c.if-is_sound.true _ c.table_fault-checked.ensures c.in_default.is c.add.ensures
 
 pub returns-then-is_sound : goal.returns-then-is_sound
 returns-then-is_sound c =
-    build_refused _ _ c.is_sound.ensures c.if-is_sound.true _ c.table_fault-checked.ensures c.checked-1.given.1
+    build_refused _ _ c.is_sound.ensures c.if-is_sound.true _ c.table_fault-checked.ensures c.in-Refused.is
 
 pub returns : goal.returns
 returns c = build_unsound _ _ c.is_sound.ensures c.if-is_sound.false _
