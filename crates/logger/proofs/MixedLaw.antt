@@ -34,7 +34,7 @@ kept_within {limits} {larger} small {b} k c = go (answer_to limits b.words c).an
 kept_run_within : {larger : Limits} {b : Books} → Kept larger b → (calls : List CallWithin) → EachSmaller larger calls → Kept larger (run_within b calls)
 unfolding run_within
 kept_run_within k [] small = k
-kept_run_within k (c ∷ cs) small = kept_run_within (kept_within small.0 k c.call) cs small.1
+kept_run_within {larger = larger} {b = b} k (c ∷ cs) small = kept_run_within {b = after c.limits b c.call} (kept_within small.0 k c.call) cs small.1
 
 -- "any two pairs have equal handles exactly if their rules are alike in truth under every choice of counts", after an opening and calls within any limits that
 -- are no larger than these
