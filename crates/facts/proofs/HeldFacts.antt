@@ -2,7 +2,6 @@
 -- one, and classes and questions answered no come of the facts' questions.
 use Prim.Native.Nat.{ℕ, zero, suc, ◌+◌, ◌-◌, ◌*◌, ◌≤◌, ◌<◌}
 use mathlib.Core.Path.{◌≡◌, refl, sym, ap, subst, ◌∙◌}
-use mathlib.Core.Logic.{◌≢◌}
 use mathlib.Core.Bool.{Bool, true, false, cond, true≢false}
 use mathlib.Core.List.{List, [], ◌∷◌}
 use native.Mathlib.Omega.{arith}
@@ -20,7 +19,7 @@ use Rattle.facts.specs.Least.{IsLeast, Near, All, RestsOn, least_count, fixed, l
 use Rattle.facts.specs.Needs.{most_offset, Within, Askable}
 use Rattle.facts.specs.Record.{state, last_field, most_noes, question_at, noes_in, Small, AllSmall, Holds, AskedOf}
 use Rattle.terms.specs.Limits.{most_count}
-use Rattle.facts.specs.State.{State, at, Fit, settled, free, left_side, right_side, joined, planned, certain, no_to, yes_to, work_in, start, state_of, decide}
+use Rattle.facts.specs.State.{State, Fit, settled, free, left_side, right_side, joined, planned, certain, no_to, yes_to, work_in, start, state_of, decide}
 use Rattle.terms.proofs.Cases.{by_eq, by_test}
 use Rattle.facts.proofs.Decided.{decided, no_to_free}
 use Rattle.facts.proofs.LeastBound.{least_bound}

@@ -11,7 +11,6 @@ use lib.Arith.{digits_div}
 use lib.Dec.{eqb}
 use Rattle.terms.specs.declared.term.Equation.{Equation}
 use Rattle.terms.specs.Meaning.{Valuation, count, truth}
-use Rattle.terms.specs.Words.{field}
 use Rattle.facts.specs.declared.fact.Fact.{Fact}
 use Rattle.facts.specs.State.{ZeroKept, Classes, State, AllFalse, Classed, Fit, left_side, right_side, settled, none_settled, free, joined, planned, work_in, state_of, spacing, some_sheet}
 use Rattle.terms.proofs.Cases.{by_eq, by_test}

@@ -16,7 +16,6 @@ use Rattle.store.proofs.ByHandles.{by_handle}
 use Rattle.store.proofs.Tests.{passes, first_passes, second_passes, all_below_says}
 use Rattle.terms.specs.declared.term.Equation.{Equation}
 use Rattle.terms.specs.Order.{fields_first, before}
-use Rattle.terms.specs.Words.{field}
 use Rattle.terms.proofs.Cases.{by_test}
 use Rattle.terms.proofs.QuestionOrder.{fields_first_strict_total, neither_before}
 use Rattle.normal_form.specs.Check.{asks_after, parts_ordered, left_apart, no_rule_applies}

@@ -11,7 +11,6 @@ use Rattle.facts.specs.declared.fact.Fact.{Fact}
 use Rattle.facts.specs.Facts.{fact, Fits}
 use Rattle.terms.specs.declared.term.Equation.{Equation}
 use Rattle.terms.specs.Meaning.{Valuation, truth}
-use Rattle.terms.specs.Words.{field}
 use Rattle.terms.proofs.Cases.{by_test}
 use Rattle.terms.proofs.QuestionOrder.{lex_more, fields_first_strict_total}
 use Rattle.normal_form.specs.KeptTable.{Asked}

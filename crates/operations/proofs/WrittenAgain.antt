@@ -8,7 +8,6 @@ use Rattle.operations.specs.declared.answer.Built.TheVariants.{Handle}
 use Rattle.operations.specs.Handles.{Call, answer_to, Books, after, run}
 use Rattle.operations.specs.Operations as operation
 use Rattle.store.specs.Outcome.{outcome}
-use Rattle.store.specs.Sound.{sound}
 use Rattle.store.specs.SoundParts.{Sound}
 use Rattle.tables.specs.Rows.{row_length, most_rows}
 use Rattle.terms.specs.declared.limits.Limits.{Limits}

@@ -17,7 +17,7 @@ use Rattle.terms.specs.declared.simplification.Guard.{Guard}
 use Rattle.terms.specs.declared.simplification.Guard.TheVariants as guard
 use Rattle.terms.specs.declared.simplification.SimplifyAnswer.{SimplifyAnswer}
 use Rattle.terms.specs.declared.simplification.Simplified.{Simplified}
-use Rattle.terms.specs.declared.simplification.Simplified.TheVariants.{Refused, Never, Always, Question}
+use Rattle.terms.specs.declared.simplification.Simplified.TheVariants.{Refused, Question}
 use Rattle.terms.specs.Words.{equation, term_of, word_of, allows}
 use Rattle.terms.specs.Needs.{HasWords}
 use Rattle.terms.specs.Simplify.{turned, larger_left, less_steps, lowered, never_or_question, simplify, gap, shown, simplify_words, answer}

@@ -1,5 +1,4 @@
 use borrow.Author.Rules.{rules}
-use Prim.Native.Nat.{◌-◌}
 use Rattle.index.proofs.IndexLaws.{entry_in, ready_none, ready_more, loaded_no, loaded_yes}
 use Rattle.index.proofs.load.Goals as goal
 

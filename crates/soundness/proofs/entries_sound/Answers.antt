@@ -1,4 +1,3 @@
-use Prim.Native.Nat.{◌-◌}
 use borrow.Author.Rules.{rules}
 use Rattle.soundness.proofs.EntryWays.{passed_none, passed_more, entry_fails, all_passed}
 use Rattle.soundness.proofs.entries_sound.Goals as goal

@@ -1,4 +1,3 @@
-use Prim.Native.Nat.{◌-◌}
 use borrow.Author.Rules.{rules}
 use Rattle.soundness.proofs.SoundWays.{left_less, not_zero, left_none}
 use Rattle.soundness.proofs.zero_from.Goals as goal

@@ -1,5 +1,4 @@
 use borrow.Author.Rules.{rules}
-use Prim.Native.Nat.{◌-◌}
 use Rattle.checking.proofs.DifferWays.{differing_begins, differing_found, differing_more, differing_ends, equal_found}
 use Rattle.checking.proofs.differing.differ_by.Goals as goal
 

@@ -1,5 +1,4 @@
 use borrow.Author.Rules.{rules}
-use Prim.Native.Nat.{◌-◌}
 use Rattle.checking.proofs.PassWays.{passed_none, passed_more, one_fails, all_passed}
 use Rattle.checking.proofs.marking.all_marked.Goals as goal
 

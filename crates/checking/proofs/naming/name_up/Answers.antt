@@ -1,5 +1,4 @@
 use borrow.Author.Rules.{rules}
-use Prim.Native.Nat.{◌-◌}
 use Rattle.checking.proofs.EntryWays.{has_parts}
 use Rattle.checking.proofs.NameWays.{naming_begins, naming_next, naming_ends}
 use Rattle.checking.proofs.naming.name_up.Goals as goal

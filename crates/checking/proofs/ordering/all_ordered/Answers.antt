@@ -1,5 +1,4 @@
 use borrow.Author.Rules.{rules}
-use Prim.Native.Nat.{◌-◌}
 use Rattle.checking.proofs.EntryWays.{has_parts}
 use Rattle.checking.proofs.PassWays.{passed_none, passed_by, fails_by, all_passed}
 use Rattle.checking.proofs.ordering.all_ordered.Goals as goal

@@ -1,4 +1,3 @@
-use Prim.Native.Nat.{◌-◌}
 use borrow.Author.Rules.{rules}
 use Rattle.examples.proofs.Sheets.{agreed_none, decides_before, decides_after, agreed_next, agreed_all}
 use Rattle.examples.proofs.best.is_before.Goals as goal

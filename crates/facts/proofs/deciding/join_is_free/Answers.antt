@@ -1,4 +1,3 @@
-use Prim.Native.Nat.{◌-◌}
 use borrow.Author.Rules.{rules}
 use Rattle.facts.proofs.RecordWays.{passed_none, passed_next, all_passed, settled_found}
 use Rattle.facts.proofs.DecideWays.{raised_sides}

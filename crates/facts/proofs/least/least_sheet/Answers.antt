@@ -1,4 +1,3 @@
-use Prim.Native.Nat.{◌-◌}
 use borrow.Author.Rules.{rules}
 use Rattle.facts.proofs.LeastWays.{none_fixed, can_fix, fixed_next, all_fixed}
 use Rattle.facts.proofs.least.least_sheet.Goals as goal

@@ -1,4 +1,3 @@
-use Prim.Native.Nat.{◌-◌}
 use mathlib.Core.Path.{sym, subst, ◌∙◌}
 use borrow.Author.Rules.{rules}
 use Rattle.facts.proofs.Joining.{Joining, joining_none, joining_raise, joining_moved, joining_stayed, joining_all}

@@ -1,4 +1,3 @@
-use Prim.Native.Nat.{◌-◌}
 use borrow.Author.Rules.{rules}
 use Rattle.store.proofs.OpenWays.{list_start, list_end, list_next, list_stop}
 use Rattle.store.proofs.opening.list_fault.Goals as goal

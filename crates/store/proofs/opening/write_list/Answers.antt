@@ -1,4 +1,3 @@
-use Prim.Native.Nat.{◌-◌}
 use borrow.Author.Rules.{rules}
 use Rattle.store.proofs.WriteLaws.{list_none, list_more, list_all}
 use Rattle.store.proofs.opening.write_list.Goals as goal

@@ -1,4 +1,3 @@
-use Prim.Native.Nat.{◌-◌}
 use borrow.Author.Rules.{rules}
 use Rattle.store.proofs.WriteLaws.{clear_none, clear_more, clear_all}
 use Rattle.store.proofs.words.clear_from.Goals as goal

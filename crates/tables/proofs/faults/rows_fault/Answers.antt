@@ -1,4 +1,3 @@
-use Prim.Native.Nat.{◌-◌}
 use borrow.Author.Rules.{rules}
 use Rattle.tables.proofs.FaultWays.{pass_start, pass_stop, pass_next, pass_end}
 use Rattle.tables.proofs.faults.rows_fault.Goals as goal

@@ -1,5 +1,4 @@
 use borrow.Author.Rules.{rules}
-use Prim.Native.Nat.{◌-◌}
 use Rattle.walking.proofs.RowValues.{said_none, row_ready, said_next, said_all}
 use Rattle.walking.proofs.rows.table_value.Goals as goal
 

@@ -1,4 +1,3 @@
-use Prim.Native.Nat.{◌-◌}
 use borrow.Author.Rules.{rules}
 use Rattle.writing.proofs.MarkWays.{numbering_begins, numbering_next, numbering_ends}
 use Rattle.writing.proofs.marking.number_rows.Goals as goal

@@ -1,4 +1,3 @@
-use Prim.Native.Nat.{◌-◌}
 use borrow.Author.Rules.{rules}
 use Rattle.writing.proofs.RowsWritten.{writing_begins, writing_entry, writing_next, writing_ends}
 use Rattle.writing.proofs.rows.write_entries.Goals as goal
