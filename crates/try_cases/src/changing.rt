@@ -11,6 +11,7 @@ use sheet::{
     Answer, sheet_build, sheet_choose, sheet_join, sheet_logger_build, sheet_logger_open,
     sheet_negate, sheet_open, sheet_open_raw,
 };
+use std::io;
 
 // The kind of row that a call stands for, by the first letter of its name; 0 for opening, and 1 for opening with a raw list.
 fn kind_of(name: Name) -> u32 {
@@ -101,17 +102,24 @@ fn expect(
 }
 
 // The answer to opening depends on no word of the store.
-fn make(logger: bool, store: &mut [u32], call: Row, given: &[u32]) {
+fn make(
+    rt: &impl Print,
+    logger: bool,
+    store: &mut [u32],
+    call: Row,
+    given: &[u32],
+) -> io::Result<()> {
     let mut after = [0u32; MOST_NUMBERS];
     let expected = expect(limits_of(logger), store, call, given, &mut after);
     let known = (call.kind < 2) | knows(store, expected.number);
     let found = perform_either(logger, store, call, given);
-    answer(found);
-    words(store);
+    answer(rt, found)?;
+    words(rt, store)?;
     remark(
+        rt,
         known,
         same_answer(found, expected) & same_words(store, &after),
-    );
+    )
 }
 
 // 257 rows of kind 1.
@@ -123,32 +131,51 @@ fn all_always() -> [u32; 1028] {
     table
 }
 
-fn make_always(logger: bool, store: &mut [u32], call: Row, rows: u32) {
+fn make_always(
+    rt: &impl Print,
+    logger: bool,
+    store: &mut [u32],
+    call: Row,
+    rows: u32,
+) -> io::Result<()> {
     let table = all_always();
-    make(logger, store, call, part(&table, 0, 4 * (rows as usize)));
+    make(
+        rt,
+        logger,
+        store,
+        call,
+        part(&table, 0, 4 * (rows as usize)),
+    )
 }
 
 // A call with what stands after the bar, or with so many rows of kind 1.
-fn make_given(store: &mut [u32], name: Name, numbers: Numbers) {
+fn make_given(rt: &impl Print, store: &mut [u32], name: Name, numbers: Numbers) -> io::Result<()> {
     let given = numbers.words;
     let call = call_of(name, numbers);
     if numbers.bar == NO_BAR {
-        make_always(name.logger, store, call, given[0]);
+        make_always(rt, name.logger, store, call, given[0])
     } else {
-        make(name.logger, store, call, part(&given, 0, numbers.count));
+        make(rt, name.logger, store, call, part(&given, 0, numbers.count))
     }
 }
 
 // On the first words of what is lent.
-fn make_within(store: &mut [u32], length: usize, name: Name, numbers: Numbers) {
+fn make_within(
+    rt: &impl Print,
+    store: &mut [u32],
+    length: usize,
+    name: Name,
+    numbers: Numbers,
+) -> io::Result<()> {
     if length <= store.len() {
-        make_given(&mut store[0..length], name, numbers);
+        make_given(rt, &mut store[0..length], name, numbers)?;
     }
+    Ok(())
 }
 
-pub fn change(mut lent: Lent, name: Name, numbers: Numbers) -> Lent {
+pub fn change(rt: &impl Print, mut lent: Lent, name: Name, numbers: Numbers) -> io::Result<Lent> {
     let mut store = lent.words;
-    make_within(&mut store, lent.length, name, numbers);
+    make_within(rt, &mut store, lent.length, name, numbers)?;
     lent.words = store;
-    lent
+    Ok(lent)
 }

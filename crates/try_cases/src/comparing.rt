@@ -1,18 +1,19 @@
 // What the evaluator says to an answer, at the end of the answer's line.
 use crate::printing::text;
+use std::io;
 
 pub fn same_answer(found: sheet::Answer, expected: evaluator::Answer) -> bool {
     (found.number == expected.number) & (found.result == expected.result)
 }
 
 // Nothing where the evaluator doesn't know the answer.
-pub fn remark(known: bool, same: bool) {
+pub fn remark(rt: &impl Print, known: bool, same: bool) -> io::Result<()> {
     if !known {
-        return;
+        return Ok(());
     }
     if same {
-        text(b" agrees");
+        text(rt, b" agrees")
     } else {
-        text(b" differs");
+        text(rt, b" differs")
     }
 }

@@ -5,6 +5,7 @@ use crate::lines::{NO_BAR, Numbers};
 use crate::printing::answer;
 use evaluator::{part, put};
 use sheet::sheet_check_normal_form;
+use std::io;
 
 // One entry more than a table may have.
 const MOST_CHAINED: u32 = 4097;
@@ -42,24 +43,30 @@ fn put_entries(table: &mut [u32], entries: u32) {
 }
 
 // The last entry is the root; the remainder keeps its handle in range, as above.
-fn check_first(table: &[u32], entries: u32) {
+fn check_first(rt: &impl Print, table: &[u32], entries: u32) -> io::Result<()> {
     let length = 4 * (entries as usize);
-    answer(sheet_check_normal_form(part(table, 0, length), entries % 65536 + 1));
+    answer(
+        rt,
+        sheet_check_normal_form(part(table, 0, length), entries % 65536 + 1),
+    )
 }
 
-fn check_chain(entries: u32) {
+fn check_chain(rt: &impl Print, entries: u32) -> io::Result<()> {
     let mut table = [0u32; CHAIN_LENGTH];
     put_entries(&mut table, entries);
-    check_first(&table, entries);
+    check_first(rt, &table, entries)
 }
 
 // A root, and the words of a table after the bar; or, without a bar, a chain of so many entries.
-pub fn diagram(numbers: Numbers) {
+pub fn diagram(rt: &impl Print, numbers: Numbers) -> io::Result<()> {
     let words = numbers.words;
     let first = words[0];
     if numbers.bar == NO_BAR {
-        check_chain(first);
+        check_chain(rt, first)
     } else {
-        answer(sheet_check_normal_form(part(&words, 1, numbers.count), first));
+        answer(
+            rt,
+            sheet_check_normal_form(part(&words, 1, numbers.count), first),
+        )
     }
 }

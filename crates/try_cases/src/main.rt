@@ -12,10 +12,14 @@ mod lines;
 mod names;
 mod printing;
 
-use libc::STDIN_FILENO;
+use std::io;
+use std::io::Read;
 
-fn main() {
-    let mut text = [0u8; 20480];
-    let end = io::read_full(STDIN_FILENO, &mut text);
-    calls::run(&text[..end]);
+// The most bytes of the script.
+const MOST_BYTES: u64 = 20480;
+
+fn main(rt: HostRuntime) -> io::Result<()> {
+    let mut text = Vec::new(rt.alloc());
+    rt.reader().take(MOST_BYTES).read_to_end(&mut text)?;
+    calls::run(&rt, &text)
 }

@@ -1,50 +1,46 @@
 // Answers, words and counts, on standard output.
-use libc::STDOUT_FILENO;
+use std::io;
 
-pub fn text(t: &[u8]) {
-    io::write_all(STDOUT_FILENO, t);
+pub fn text(rt: &impl Print, t: &[u8]) -> io::Result<()> {
+    rt.write_all(t)
 }
 
-fn number(n: u64) {
-    text(b" ");
-    io::print_decimal(STDOUT_FILENO, n);
+fn number(rt: &impl Print, n: u64) -> io::Result<()> {
+    print!(rt; " {n}")
 }
 
-pub fn word(n: u32) {
-    number(n as u64);
+pub fn word(rt: &impl Print, n: u32) -> io::Result<()> {
+    number(rt, n as u64)
 }
 
-pub fn signed(z: i32) {
-    if z < 0 {
-        text(b" -");
-        io::print_decimal(STDOUT_FILENO, -(z as i64) as u64);
-    } else {
-        number(z as u64);
-    }
+pub fn signed(rt: &impl Print, z: i32) -> io::Result<()> {
+    print!(rt; " {z}")
 }
 
 // The words of a slice, after a bar.
-pub fn words(list: &[u32]) {
-    text(b" |");
+pub fn words(rt: &impl Print, list: &[u32]) -> io::Result<()> {
+    text(rt, b" |")?;
     for i in 0..list.len() {
-        word(list[i]);
+        word(rt, list[i])?;
     }
+    Ok(())
 }
 
-fn count(n: u16) {
-    word(n as u32);
+fn count(rt: &impl Print, n: u16) -> io::Result<()> {
+    word(rt, n as u32)
 }
 
-pub fn counts(sheet: &[u16]) {
-    text(b" |");
+pub fn counts(rt: &impl Print, sheet: &[u16]) -> io::Result<()> {
+    text(rt, b" |")?;
     for i in 0..sheet.len() {
-        count(sheet[i]);
+        count(rt, sheet[i])?;
     }
+    Ok(())
 }
 
 // Number and result, after a colon.
-pub fn answer(a: sheet::Answer) {
-    text(b":");
-    word(a.number);
-    word(a.result);
+pub fn answer(rt: &impl Print, a: sheet::Answer) -> io::Result<()> {
+    text(rt, b":")?;
+    word(rt, a.number)?;
+    word(rt, a.result)
 }

@@ -35,37 +35,43 @@ use crate::raw_lists::raw_rounds;
 use crate::rounds::{list_rounds, store_rounds};
 use crate::run::{Run, begun};
 use crate::simplifying::try_equations;
+use std::io;
 
 // What is generated: equations, lists, and calls.
-fn run_generated(mut run: Run) -> Run {
-    run = print_part(try_equations(run), b"equations");
-    run = print_part(list_rounds(run), b"lists");
-    print_stores(print_part(store_rounds(run), b"calls"))
+fn run_generated(rt: &impl Print, mut run: Run) -> io::Result<Run> {
+    run = print_part(rt, try_equations(run), "equations")?;
+    run = print_part(rt, list_rounds(run), "lists")?;
+    run = print_part(rt, store_rounds(run), "calls")?;
+    print_stores(rt, run)
 }
 
 // What is made by hand.
-fn run_made(mut run: Run) -> Run {
+fn run_made(rt: &impl Print, mut run: Run) -> io::Result<Run> {
     run = try_all_broken(run);
-    run = print_part(try_all_cut(run), b"hostile stores");
-    print_part(try_limits(run), b"limits")
+    run = print_part(rt, try_all_cut(run), "hostile stores")?;
+    print_part(rt, try_limits(run), "limits")
 }
 
 // The logger's open and build.
-fn run_logger(mut run: Run) -> Run {
+fn run_logger(rt: &impl Print, mut run: Run) -> io::Result<Run> {
     let both = logger_rounds(run);
-    run = print_part(both.run, b"logger");
-    print_sides(both);
-    print_part(try_logger_limits(run), b"limits of the logger")
+    run = print_part(rt, both.run, "logger")?;
+    print_sides(rt, both)?;
+    print_part(rt, try_logger_limits(run), "limits of the logger")
 }
 
 // Raw lists.
-fn run_raw(mut run: Run) -> Run {
+fn run_raw(rt: &impl Print, mut run: Run) -> io::Result<Run> {
     let met = raw_rounds(run);
-    run = print_part(met.run, b"raw lists");
-    print_raw(met);
-    run
+    run = print_part(rt, met.run, "raw lists")?;
+    print_raw(rt, met)?;
+    Ok(run)
 }
 
-fn main() {
-    print_refusals(run_raw(run_logger(run_made(run_generated(begun())))));
+fn main(rt: HostRuntime) -> io::Result<()> {
+    let mut run = run_generated(&rt, begun())?;
+    run = run_made(&rt, run)?;
+    run = run_logger(&rt, run)?;
+    run = run_raw(&rt, run)?;
+    print_refusals(&rt, run)
 }

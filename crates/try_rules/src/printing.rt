@@ -2,109 +2,117 @@
 use crate::both::Both;
 use crate::raw_lists::RawRun;
 use crate::run::Run;
-use libc::STDOUT_FILENO;
+use std::io;
 
 // Two numbers, each after a text, and the end of the line.
-fn print_numbers(text: &[u8], number: u64, other: &[u8], next: u64) {
-    io::write_all(STDOUT_FILENO, text);
-    io::print_decimal(STDOUT_FILENO, number);
-    io::write_all(STDOUT_FILENO, other);
-    io::print_decimal(STDOUT_FILENO, next);
-    io::write_all(STDOUT_FILENO, b"\n");
+fn print_numbers(
+    rt: &impl Print,
+    text: &str,
+    number: u64,
+    other: &str,
+    next: u64,
+) -> io::Result<()> {
+    println!(rt; "{text}{number}{other}{next}")
 }
 
 // The comparisons of a part; the two counts then start anew.
-pub fn print_part(mut run: Run, name: &[u8]) -> Run {
-    io::write_all(STDOUT_FILENO, name);
-    print_numbers(b": compared ", run.compared, b", differ ", run.differ);
+pub fn print_part(rt: &impl Print, mut run: Run, name: &str) -> io::Result<Run> {
+    print!(rt; "{name}")?;
+    print_numbers(rt, ": compared ", run.compared, ", differ ", run.differ)?;
     run.compared = 0;
     run.differ = 0;
-    run
+    Ok(run)
 }
 
 // What the raw lists brought about.
-pub fn print_raw(met: RawRun) {
-    print_numbers(b"raw lists, refusal ", 17, b": ", met.too_many as u64);
+pub fn print_raw(rt: &impl Print, met: RawRun) -> io::Result<()> {
+    print_numbers(rt, "raw lists, refusal ", 17, ": ", met.too_many as u64)?;
     print_numbers(
-        b"raw lists, refusal 14 before the 13 of more than ",
+        rt,
+        "raw lists, refusal 14 before the 13 of more than ",
         20,
-        b" questions: ",
+        " questions: ",
         met.late as u64,
-    );
+    )?;
     print_numbers(
-        b"raw lists accepted of which ",
+        rt,
+        "raw lists accepted of which ",
         0,
-        b" questions remain: ",
+        " questions remain: ",
         met.nothing as u64,
-    );
+    )
 }
 
-fn print_order(order: u32, stores: u32, in_one: u32) {
-    io::write_all(STDOUT_FILENO, b"stores in order ");
-    io::print_decimal(STDOUT_FILENO, order as u64);
+fn print_order(rt: &impl Print, order: u32, stores: u32, in_one: u32) -> io::Result<()> {
+    print!(rt; "stores in order {order}")?;
     print_numbers(
-        b": ",
+        rt,
+        ": ",
         stores as u64,
-        b", with a list in no other order: ",
+        ", with a list in no other order: ",
         in_one as u64,
-    );
+    )
 }
 
 // The generated stores of each order.
-pub fn print_stores(run: Run) -> Run {
+pub fn print_stores(rt: &impl Print, run: Run) -> io::Result<Run> {
     let stores = run.stores;
     let in_one = run.in_one;
-    print_order(0, stores[0], in_one[0]);
-    print_order(1, stores[1], in_one[1]);
-    run
+    print_order(rt, 0, stores[0], in_one[0])?;
+    print_order(rt, 1, stores[1], in_one[1])?;
+    Ok(run)
 }
 
-fn print_refusal(text: &[u8], number: u32, times: u32) {
+fn print_refusal(rt: &impl Print, text: &str, number: u32, times: u32) -> io::Result<()> {
     if times > 0 {
-        print_numbers(text, number as u64, b": ", times as u64);
+        print_numbers(rt, text, number as u64, ": ", times as u64)?;
     }
+    Ok(())
 }
 
 // A line for each number that was met, but 0.
-fn print_met(text: &[u8], met: [u32; 64]) {
+fn print_met(rt: &impl Print, text: &str, met: [u32; 64]) -> io::Result<()> {
     for number in 1..64u32 {
-        print_refusal(text, number, met[number as usize]);
+        print_refusal(rt, text, number, met[number as usize])?;
     }
+    Ok(())
 }
 
-pub fn print_refusals(run: Run) {
+pub fn print_refusals(rt: &impl Print, run: Run) -> io::Result<()> {
     let met = run.met;
-    print_met(b"refusal ", met);
+    print_met(rt, "refusal ", met)
 }
 
 // The refusals of one side, and the logger's for its limit and not for its store's length.
-fn print_alone(both: Both) {
+fn print_alone(rt: &impl Print, both: Both) -> io::Result<()> {
     let institute = both.institute_alone;
     let logger = both.logger_alone;
-    print_met(b"by the institute alone, refusal ", institute);
-    print_met(b"by the logger alone, refusal ", logger);
+    print_met(rt, "by the institute alone, refusal ", institute)?;
+    print_met(rt, "by the logger alone, refusal ", logger)?;
     print_numbers(
-        b"by the logger alone, refusal 51 above ",
+        rt,
+        "by the logger alone, refusal 51 above ",
         200,
-        b" entries: ",
+        " entries: ",
         both.full as u64,
-    );
+    )
 }
 
-fn print_both(what: &[u8], accepted: u32, refused: u32) {
-    io::write_all(STDOUT_FILENO, what);
+fn print_both(rt: &impl Print, what: &str, accepted: u32, refused: u32) -> io::Result<()> {
+    print!(rt; "{what}")?;
     print_numbers(
-        b" accepted by both: ",
+        rt,
+        " accepted by both: ",
         accepted as u64,
-        b", refused by both: ",
+        ", refused by both: ",
         refused as u64,
-    );
+    )
 }
 
 // The same openings and builds at the institute and on the logger.
-pub fn print_sides(both: Both) {
+pub fn print_sides(rt: &impl Print, both: Both) -> io::Result<()> {
     let alike = both.alike_calls;
-    print_both(b"openings", alike[0], alike[1]);
-    print_both(b"builds", alike[2], alike[3]);
-    print_alone(both);
+    print_both(rt, "openings", alike[0], alike[1])?;
+    print_both(rt, "builds", alike[2], alike[3])?;
+    print_alone(rt, both)
 }

@@ -1,4 +1,4 @@
--- `put_entry` is safe and ends:
+-- `put_entry` is safe: a written word leaves the length as it is.
 use native.Mathlib.Omega.{arith}
 use lib.ListN.{length-set}
 use Rattle.evaluator.proofs.entries.put_entry.Goals as goal

@@ -1,5 +1,5 @@
 -- `questions_fault` is safe and ends: the loop's place stays within its bound.
-use Prim.Native.Nat.{◌-◌, ◌≤◌}
+use Prim.Native.Nat.{◌≤◌}
 use lib.ListN.{length}
 use Rattle.evaluator.proofs.lists.questions_fault.Given as goal
 

@@ -1,5 +1,5 @@
 -- `alike` is safe and ends: the loop's place stays within its bound.
-use Prim.Native.Nat.{◌-◌, ◌≤◌}
+use Prim.Native.Nat.{◌≤◌}
 use Rattle.evaluator.proofs.meaning.alike.Given as goal
 
 abbrev pub invariant-loop-number : goal.invariant-loop-number

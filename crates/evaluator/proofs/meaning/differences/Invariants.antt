@@ -1,5 +1,5 @@
 -- `differences` is safe and ends: the loop's place stays within its bound.
-use Prim.Native.Nat.{◌-◌, ◌≤◌}
+use Prim.Native.Nat.{◌≤◌}
 use Rattle.evaluator.proofs.meaning.differences.Given as goal
 
 abbrev pub invariant-loop-number : goal.invariant-loop-number

@@ -1,5 +1,5 @@
 -- `opened` is safe and ends: the loop's place stays within its bound.
-use Prim.Native.Nat.{◌-◌, ◌≤◌}
+use Prim.Native.Nat.{◌≤◌}
 use Rattle.evaluator.proofs.opening.opened.Given as goal
 
 abbrev pub invariant-loop-i : goal.invariant-loop-i

@@ -1,5 +1,5 @@
 -- `entries_reached` is safe and ends: the loop's place stays within its bound.
-use Prim.Native.Nat.{◌-◌, ◌≤◌}
+use Prim.Native.Nat.{◌≤◌}
 use Rattle.evaluator.proofs.reaching.entries_reached.Given as goal
 
 abbrev pub invariant-loop-i : goal.invariant-loop-i

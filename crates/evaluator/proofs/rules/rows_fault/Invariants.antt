@@ -1,5 +1,5 @@
 -- `rows_fault` is safe and ends: the loop's place stays within its bound.
-use Prim.Native.Nat.{◌-◌, ◌≤◌}
+use Prim.Native.Nat.{◌≤◌}
 use Rattle.evaluator.proofs.rules.rows_fault.Given as goal
 
 abbrev pub invariant-loop-r : goal.invariant-loop-r

@@ -1,5 +1,5 @@
 -- `rule_truth` is safe and ends: the loop's place stays within its bound.
-use Prim.Native.Nat.{◌-◌, ◌≤◌}
+use Prim.Native.Nat.{◌≤◌}
 use Rattle.evaluator.proofs.truth.rule_truth.Given as goal
 
 abbrev pub invariant-loop-r : goal.invariant-loop-r

@@ -1,5 +1,5 @@
 -- `copy` is safe and ends: the loop's place stays within its bound.
-use Prim.Native.Nat.{◌-◌, ◌≤◌}
+use Prim.Native.Nat.{◌≤◌}
 use mathlib.Core.Path.{◌≡◌}
 use lib.ListN.{length}
 use Rattle.evaluator.proofs.words.copy.Given as goal
