@@ -1,4 +1,4 @@
-//! Links libsheet.a: from the directory that SHEET_LIB_DIR names, or from where `rt staticlib sheet` writes it in this repository.
+//! Links libsheet.a: from the directory that SHEET_LIB_DIR names, or from where `c/library` puts it in this repository.
 
 use std::env;
 use std::path::PathBuf;
@@ -14,7 +14,7 @@ fn main() {
     println!("cargo:rerun-if-changed={}", library.display());
     if !library.is_file() {
         panic!(
-            "{} is not there: run `rt staticlib sheet` in the repository's root, or name the folder of libsheet.a in SHEET_LIB_DIR",
+            "{} is not there: run c/library in the repository's root, or name the folder of libsheet.a in SHEET_LIB_DIR",
             library.display()
         );
     }
