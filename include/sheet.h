@@ -1,6 +1,6 @@
 /* Sighting-sheet rules as decision diagrams: the fourteen operations, from C.
 
-   Link libsheet.a, which `rt staticlib sheet` writes (x86-64 Linux). The library calls nothing but memcpy and memset, keeps nothing from one
+   Link libsheet.a, which `c/library` builds (x86-64 Linux). The library calls nothing but memcpy and memset, keeps nothing from one
    call to the next, and has no memory of its own: it reads and writes what is lent, and its stack. A call takes less than 65,536 bytes of
    stack: the most that was measured is 44,520, of join and choose over 20 questions. No proof speaks of it.
 

@@ -1,4 +1,4 @@
--- What a table and a root that pass 81 to 85 are like, in plain facts (theorem `Passes-kept`).
+-- What a table and a root that pass 81 to 85 are like, in plain facts (theorem `passes_kept`).
 use Rattle.std.specs.Prelude.{ℕ, ◌+◌, ◌≤◌, ◌<◌, ◌≡◌, List}
 use Rattle.store.specs.Layout.{leaves}
 use Rattle.terms.specs.declared.term.Equation.{Equation}
