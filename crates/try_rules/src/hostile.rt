@@ -3,7 +3,7 @@ use crate::asking::{ask_example, ask_read, ask_verdict};
 use crate::comparing::perform;
 use crate::filling::FULL_WORDS;
 use crate::run::{Run, agree, expect_answer};
-use crate::writing::ask_written;
+use crate::writing_back::ask_written;
 use evaluator::{copy, institute_limits, is_sound, part, refused, row_of, same_words};
 use sheet::sheet_logger_build;
 

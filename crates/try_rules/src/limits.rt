@@ -4,7 +4,7 @@ ghost use Rattle.std.specs.Prelude.{◌≤◌};
 use crate::filling::{Form, filled, tree, widest};
 use crate::hostile::refuse_all;
 use crate::run::{Run, agree, expect_answer};
-use crate::writing::{ask_written, write_back};
+use crate::writing_back::{ask_written, write_back};
 use evaluator::{Answer, accepted, institute_limits, is_sound, refused, same_words, used};
 use sheet::{sheet_build, sheet_negate};
 

@@ -1,6 +1,6 @@
 // What a run came to: the comparisons of each part, the generated stores, and at the end the refusals that were met.
 use crate::both::Both;
-use crate::raw_lists::RawRun;
+use crate::raw_openings::RawRun;
 use crate::run::Run;
 use std::io;
 

@@ -10,7 +10,7 @@ use crate::lists::{List, throw_list};
 use crate::opening::open_list;
 use crate::run::{Run, agree};
 use crate::spoiling::spoil;
-use crate::writing::write_handles;
+use crate::writing_back::write_handles;
 use evaluator::{HEADING, institute_limits, is_sound};
 
 // A list, good or spoiled once or twice, and a store of any length.
