@@ -7,19 +7,16 @@ mod calls;
 mod changing;
 mod comparing;
 mod diagrams;
+mod input;
 mod lending;
 mod lines;
 mod names;
 mod printing;
 
 use std::io;
-use std::io::Read;
-
-// The most bytes of the script.
-const MOST_BYTES: u64 = 20480;
 
 fn main(rt: HostRuntime) -> io::Result<()> {
-    let mut text = Vec::new(rt.alloc());
-    rt.reader().take(MOST_BYTES).read_to_end(&mut text)?;
-    calls::run(&rt, &text)
+    let mut text = [0u8; 20480];
+    let end = input::read_full(&mut rt.reader(), &mut text)?;
+    calls::run(&rt, &text[..end])
 }
