@@ -1,5 +1,5 @@
-// The operations as C functions, one for each, with the prototypes of include/sheet.h. The functions do no work of their own: each calls its
-// operation and gives its answer in the documents' numbers.
+// The operations as functions that C can call, one for each, with the prototypes of include/sheet.h; crate `sheet_c` exports them. The functions do no work of
+// their own: each calls its operation and gives its answer in the documents' numbers.
 #![tactic(auto)]
 
 mod answers;
