@@ -110,14 +110,14 @@ module _ (ask : ℕ → Equation) (n : ℕ) where
           })
 
   -- ---- two parts, sought one after the other: what satisfies one of them satisfies the whole, and the other way round
-  module _ {xs xs₁ xs₂ : List Fact} {t t₁ t₂ : Tree} (from_First : (v : Valuation) → Satisfies xs₁ t₁ v → Satisfies xs t v)
-      (from_Second : (v : Valuation) → Satisfies xs₂ t₂ v → Satisfies xs t v)
+  module _ {xs xs₁ xs₂ : List Fact} {t t₁ t₂ : Tree} (from_first : (v : Valuation) → Satisfies xs₁ t₁ v → Satisfies xs t v)
+      (from_second : (v : Valuation) → Satisfies xs₂ t₂ v → Satisfies xs t v)
       (either : (v : Valuation) → Satisfies xs t v → Satisfies xs₁ t₁ v ⊎ Satisfies xs₂ t₂ v) where
     right_parts : {b r o : Best} → Sized n b → Right xs₁ t₁ b r → Right xs₂ t₂ r o → Right xs t b o
     right_parts {b} {r} {o} z w u = record {
       comes_of = elim u.comes_of [
-        | inl e ↦ elim w.comes_of [ inl d ↦ inl (e ∙ d) | inr f ↦ inr (f.0, from_First f.0 f.1, e ∙ f.2) ]
-        | inr f ↦ inr (f.0, from_Second f.0 f.1, f.2)
+        | inl e ↦ elim w.comes_of [ inl d ↦ inl (e ∙ d) | inr f ↦ inr (f.0, from_first f.0 f.1, e ∙ f.2) ]
+        | inr f ↦ inr (f.0, from_second f.0 f.1, f.2)
       ];
       is_least = λ v s. elim (either v s) [
         | inl a ↦ pass_on (sheet_size v) (right_sized w z) (w.is_least v a) u.keeps

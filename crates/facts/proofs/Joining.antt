@@ -15,7 +15,7 @@ use Rattle.facts.specs.declared.record.Facts.{Facts}
 use Rattle.facts.specs.Needs.{CanRaise, field_moved}
 use Rattle.facts.specs.Record.{state, last_field, noes_in, field_places}
 use Rattle.facts.specs.State.{planned}
-use Rattle.facts.proofs.Numbered.{get_d_beyond}
+use Rattle.facts.proofs.Numbered.{get_or_beyond}
 use Rattle.facts.proofs.RecordWays.{get_or_inside}
 
 module _ (g : Facts) (into from by : ℕ) where
@@ -107,7 +107,7 @@ module _ (g : Facts) (into from by : ℕ) where
   joining_all {i} {f} j h l s = λ x. record { classes = record { class = fun_ext class x; offset = fun_ext offset x }; noes = noes x }
     where
       outside : (k : ℕ) → i ≤ k → eqb (get_or g.class k k) from ≡ false
-      outside k m = rw (get_d_beyond g.class k k (omega arith)) (ne_eqb k from (λ e. omega arith))
+      outside k m = rw (get_or_beyond g.class k k (omega arith)) (ne_eqb k from (λ e. omega arith))
 
       class : (k : ℕ) → get_or f.class k k ≡ new_class k
       class k = elim (dec_le i k) [

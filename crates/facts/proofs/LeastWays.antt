@@ -33,7 +33,7 @@ holds_more {m = m} {n = n} l h = record { facts = h.facts; small = all_more h.fa
     all_more [] a = tt
     all_more (x ∷ xs) a = (small_more l a.0, all_more xs a.1)
 
-module _ {f : Facts} {x : ℕ} (can : CanFix f x) {count : ℕ} (up_to_lem : count ≤ least_count (state f) x) where
+module _ {f : Facts} {x : ℕ} (can : CanFix f x) {count : ℕ} (up_to : count ≤ least_count (state f) x) where
   pub fix_ready : {q : Equation} → q ≡ counts x count → Askable f q
   fix_ready e = record {
     within = can.within;

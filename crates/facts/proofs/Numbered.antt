@@ -34,10 +34,10 @@ number_next {i} {f} n h = record {
     go k l (no d) = get_or-set_other f.class i k i k d ∙ n.own k (omega arith)
 
 -- beyond a list get_or gives its default
-pub get_d_beyond : (xs : List ℕ) (k d : ℕ) → length xs ≤ k → get_or xs k d ≡ d
-get_d_beyond [] k d h = refl
-get_d_beyond (x ∷ xs) zero d h = absurd (omega arith)
-get_d_beyond (x ∷ xs) (suc k) d h = get_d_beyond xs k d (omega arith)
+pub get_or_beyond : (xs : List ℕ) (k d : ℕ) → length xs ≤ k → get_or xs k d ≡ d
+get_or_beyond [] k d h = refl
+get_or_beyond (x ∷ xs) zero d h = absurd (omega arith)
+get_or_beyond (x ∷ xs) (suc k) d h = get_or_beyond xs k d (omega arith)
 
 pub numbered_start : {i : ℕ} {f : Facts} → Numbered i f → field_places ≤ i → state f ≡ start
 unfolding noes_in
@@ -45,7 +45,7 @@ numbered_start {i} {f} n h = λ j. record { classes = record { class = fun_ext c
   where
     class : (k : ℕ) → get_or f.class k k ≡ k
     class k = elim (dec_le i k) [
-      | yes l ↦ get_d_beyond f.class k k (omega (arith, n.size, n.up_to))
+      | yes l ↦ get_or_beyond f.class k k (omega (arith, n.size, n.up_to))
       | no l ↦ n.own k (omega arith)
     ]
 

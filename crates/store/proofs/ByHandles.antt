@@ -28,11 +28,11 @@ by_handle m P f g h l = elim (dec_lt h leaves) [
 ]
 
 module _ {s : List ℕ} {m : ℕ} (f : Falling s m) (P : ℕ → Type 0) (at_leaf : (h : ℕ) → h < leaves → P h)
-    (at_entry_lem : (i : ℕ) → i < m → P (entry s i).yes → P (entry s i).no → P (i + leaves)) where
+    (at_entry : (i : ℕ) → i < m → P (entry s i).yes → P (entry s i).no → P (i + leaves)) where
   handles_within : (bound h : ℕ) → h < bound → h < m + leaves → P h
   handles_within zero h b l = absurd (omega arith)
   handles_within (suc bound) h b l = by_handle m (λ g. g < suc bound → P g) (λ g k _. at_leaf g k)
-      (λ i k c. at_entry_lem i k
+      (λ i k c. at_entry i k
       (handles_within bound (entry s i).yes (omega (arith, f.yes_below i k)) (omega (arith, f.yes_below i k)))
       (handles_within bound (entry s i).no (omega (arith, f.no_below i k)) (omega (arith, f.no_below i k)))) h l b
 
