@@ -12,9 +12,8 @@ use Rattle.operations.specs.Operations as operation
 use Rattle.raw_lists.specs.OpenRaw as raw_lists
 use Rattle.raw_lists.specs.RawOpened.{raw_number}
 use Rattle.reading.specs.Read.{read_sheet, read_number, read_result}
-use Rattle.store.specs.declared.answer.Opened.{Opened}
+use Rattle.store.specs.Opened.{Opened, open_number}
 use Rattle.store.specs.Open.{open_store}
-use Rattle.store.specs.Opened.{open_number}
 use Rattle.store.specs.Outcome as specs
 use Rattle.terms.specs.declared.simplification.SimplifyAnswer.{SimplifyAnswer}
 use Rattle.terms.specs.Limits.{term_limits, store_limits, logger_limits}

@@ -21,7 +21,7 @@ use Rattle.operations.specs.Built.{built_number}
 use Rattle.operations.specs.Handles as handles
 use Rattle.operations.specs.Handles.{Call, Books, opened_books, run, HandleLaw}
 use Rattle.operations.specs.Operations.{refused, build}
-use Rattle.store.specs.declared.answer.Opened.TheVariants.{Accepted}
+use Rattle.std.specs.Prelude.{Ok}
 use Rattle.store.specs.Layout.{used, room}
 use Rattle.store.specs.Meaning.{meaning}
 use Rattle.store.specs.Open.{opening, opened_words, open_store}
@@ -45,7 +45,7 @@ use Rattle.logger.proofs.SameCalls.{same_calls, same_numbers, same_words}
 
 -- ---- the logger's store by itself
 -- any n, order and list, and a store of any length, that the logger's opening accepts
-module _ (n order : ℕ) (list s : List ℕ) (e : opening logger_limits n order list (length s) ≡ Accepted) where
+module _ (n order : ℕ) (list s : List ℕ) (e : opening logger_limits n order list (length s) ≡ Ok tt) where
   pub logger_opened_sound : sound logger_limits (opened_words n order list (length s)) ≡ true
   logger_opened_sound = opened_sound logger_limits n order list s e
 
@@ -83,7 +83,7 @@ logger_smaller = record { fields_in = omega arith; steps_in = omega arith; quest
 
 -- "After the same accepted opening, the same builds in the same order, nothing else writing, each accepted by both or by neither, give the same used entries and
 -- handles.": any n, order and list, lent stores of any two lengths, and any list of rule tables, any words at all
-module _ (n order : ℕ) (list s s' : List ℕ) (e : opening logger_limits n order list (length s) ≡ Accepted) (e' : opening store_limits n order list (length s') ≡ Accepted)
+module _ (n order : ℕ) (list s s' : List ℕ) (e : opening logger_limits n order list (length s) ≡ Ok tt) (e' : opening store_limits n order list (length s') ≡ Ok tt)
     (tables : List (List ℕ)) where
   abbrev logger_books : Books
   logger_books = opened_books n order list (length s)
@@ -113,7 +113,7 @@ pub logger_store_sound : (s : List ℕ) → sound logger_limits s ≡ true → s
 logger_store_sound = smaller_sound logger_smaller
 
 -- the logger's opening, where it is accepted, is the institute's,
-pub logger_open_same : (n order : ℕ) (list s : List ℕ) → (open_store logger_limits n order list s).answer ≡ Accepted
+pub logger_open_same : (n order : ℕ) (list s : List ℕ) → (open_store logger_limits n order list s).answer ≡ Ok tt
     → open_store store_limits n order list s ≡ open_store logger_limits n order list s
 logger_open_same = smaller_opens logger_smaller
 
@@ -122,7 +122,7 @@ pub logger_build_same : (s table : List ℕ) (h : ℕ) → (build logger_limits 
 logger_build_same s table = smaller_calls logger_smaller s (handles.build table)
 
 -- The handle law covers the logger's calls and the institute's on the logger's store, in whatever order they come, accepted or refused.
-pub logger_mixed_law : (n order : ℕ) (list s : List ℕ) → opening logger_limits n order list (length s) ≡ Accepted → (calls : List (Call ⊎ Call))
+pub logger_mixed_law : (n order : ℕ) (list s : List ℕ) → opening logger_limits n order list (length s) ≡ Ok tt → (calls : List (Call ⊎ Call))
     → HandleLaw (run_within (opened_books n order list (length s)) (map by_either calls)).ledger
 logger_mixed_law n order list s e calls = mixed_law logger_limits store_limits logger_smaller n order list s e (map by_either calls) (each calls)
   where

@@ -10,7 +10,7 @@ use Rattle.operations.specs.declared.answer.Built.{Built}
 use Rattle.operations.specs.declared.answer.Built.TheVariants.{Handle, Refused}
 use Rattle.operations.specs.Handles.{Call, answer_to, Books, opened_books, after, run, HandleLaw}
 use Rattle.operations.specs.Kept.{Kept}
-use Rattle.store.specs.declared.answer.Opened.TheVariants.{Accepted}
+use Rattle.std.specs.Prelude.{Ok}
 use Rattle.store.specs.Open.{opening}
 use Rattle.terms.specs.declared.limits.Limits.{Limits}
 use Rattle.operations.proofs.HandleLaw.{kept_after, kept_law, opened_kept}
@@ -38,7 +38,7 @@ kept_run_within {larger = larger} {b = b} k (c ∷ cs) small = kept_run_within {
 
 -- "any two pairs have equal handles exactly if their rules are alike in truth under every choice of counts", after an opening and calls within any limits that
 -- are no larger than these
-pub mixed_law : (limits larger : Limits) → Smaller limits larger → (n order : ℕ) (list s : List ℕ) → opening limits n order list (length s) ≡ Accepted
+pub mixed_law : (limits larger : Limits) → Smaller limits larger → (n order : ℕ) (list s : List ℕ) → opening limits n order list (length s) ≡ Ok tt
     → (calls : List CallWithin) → EachSmaller larger calls → HandleLaw (run_within (opened_books n order list (length s)) calls).ledger
 mixed_law limits larger small n order list s e calls each =
     kept_law (kept_run_within (opened_kept larger n order list s (opening_larger small n order list (length s) e)) calls each)

@@ -10,7 +10,7 @@ use Rattle.operations.specs.BooleanLaws.{Formula, formula_truth, BooleanLaw, Wor
 use Rattle.operations.specs.Handles.{Call, negate, join, choose, answer_to, Rule, pair, rule_of, rule_of_call, Books, opened_books, after, run}
 use Rattle.operations.specs.Kept.{Kept}
 use Rattle.operations.specs.Stands.{Stands}
-use Rattle.store.specs.declared.answer.Opened.TheVariants.{Accepted}
+use Rattle.std.specs.Prelude.{Ok}
 use Rattle.store.specs.Meaning.{meaning}
 use Rattle.store.specs.Open.{opening}
 use Rattle.terms.specs.declared.limits.Limits.{Limits}
@@ -66,7 +66,7 @@ module _ {limits : Limits} {letters : ℕ → ℕ} {start : Books} (kept_start :
       (stands_exact p.kept.sound p.stands q.stands).1 (λ v. law (λ x. meaning start.words (letters x) v))
 
 -- Worked out after any list of calls on a store that open has just accepted.
-pub boolean_law : (limits : Limits) (n order : ℕ) (list s : List ℕ) → opening limits n order list (length s) ≡ Accepted → (calls : List Call)
+pub boolean_law : (limits : Limits) (n order : ℕ) (list s : List ℕ) → opening limits n order list (length s) ≡ Ok tt → (calls : List Call)
     → (letters : ℕ → ℕ) (f g : Formula) → BooleanLaw f g → (h k : ℕ) (b : Books)
     → Worked limits letters (run limits (opened_books n order list (length s)) calls) f h b
     → Worked limits letters (run limits (opened_books n order list (length s)) calls) g k b

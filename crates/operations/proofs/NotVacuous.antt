@@ -16,7 +16,7 @@ use Rattle.operations.specs.declared.answer.Built.TheVariants.{Handle, Refused}
 use Rattle.operations.specs.Handles.{Call, answer_to, opened_books, run}
 use Rattle.operations.specs.Operations as operation
 use Rattle.operations.specs.Operations.{refused, added, add_meaning}
-use Rattle.store.specs.declared.answer.Opened.TheVariants.{Accepted}
+use Rattle.std.specs.Prelude.{Ok}
 use Rattle.store.specs.Layout.{used, room}
 use Rattle.store.specs.Open.{opening}
 use Rattle.store.specs.SoundParts.{Sound}
@@ -43,7 +43,7 @@ sound_not_refused {limits} {s} snd c = call_cases limits s (λ o. o.answer ≢ R
     (λ f only e. true≢false (sym (sound_from limits s snd) ∙ only (cc))) c (λ _ _. added_not_refused limits s _)
 
 -- In a run from an accepted open no call answers 22.
-pub never_not_sound : (limits : Limits) (n order : ℕ) (list s : List ℕ) → opening limits n order list (length s) ≡ Accepted → (calls : List Call) (c : Call)
+pub never_not_sound : (limits : Limits) (n order : ℕ) (list s : List ℕ) → opening limits n order list (length s) ≡ Ok tt → (calls : List Call) (c : Call)
     → (answer_to limits (run limits (opened_books n order list (length s)) calls).words c).answer ≢ Refused NotSound
 never_not_sound limits n order list s e calls = sound_not_refused (run_kept limits n order list s e calls).sound
 

@@ -11,7 +11,7 @@ use Rattle.operations.specs.BooleanLaws.{letter, not_of, BooleanLaw, is_letter, 
 use Rattle.operations.specs.Handles.{build, negate, answer_to, pair, Books, first_books, opened_books, after, run, In, newest}
 use Rattle.operations.specs.Openings.{by_list, by_raw_list, opened_by}
 use Rattle.operations.specs.ThreeEqual.{three_equal, three_equal_raw, last_equal, outer_equal, not_outer, after_case_6}
-use Rattle.store.specs.declared.answer.Opened.TheVariants.{Accepted}
+use Rattle.std.specs.Prelude.{Ok}
 use Rattle.store.specs.Open.{opening}
 use Rattle.store.specs.Outcome.{Outcome}
 use Rattle.tables.specs.Rows.{rule_meaning}
@@ -91,7 +91,7 @@ unfolding operations_compute
 x_entered FieldsFirst = newest
 x_entered LeftFirst = newest
 
-opens : (order : ListOrder) → opening store_limits 3 (order_number order) three_equal (length (replicate {A = ℕ} 34 0)) ≡ Accepted
+opens : (order : ListOrder) → opening store_limits 3 (order_number order) three_equal (length (replicate {A = ℕ} 34 0)) ≡ Ok tt
 unfolding operations_compute
 opens FieldsFirst = refl
 opens LeftFirst = refl

@@ -6,7 +6,7 @@ mod entries;
 mod opening;
 mod words;
 
-pub use answer::{OpenFault, Opened, is_accepted, open_number};
+pub use answer::OpenFault;
 pub use entries::{Entry, append, entry_from, entry_of, same_entry};
 pub use opening::{list_fault, open, open_within, question_in, write_opened};
 pub use words::{

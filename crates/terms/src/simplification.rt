@@ -140,10 +140,9 @@ fn shown(g: Guard) -> Simplified
 pub fn simplify_within(limits: TermLimits, left: u32, right: u32) -> Result<Simplified, OutOfLimits>
     ensures { result ≡ spec.simplify_words limits left right }
 {
-    let l = Term::from(left);
-    let r = Term::from(right);
-    if allows(limits, l) && allows(limits, r) {
-        return Ok(shown(simplify_equation(Equation { left: l, right: r })));
+    let e = Equation::of_words(left, right);
+    if allows(limits, e.left) && allows(limits, e.right) {
+        return Ok(shown(simplify_equation(e)));
     }
     Err(OutOfLimits)
 }

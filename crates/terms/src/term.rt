@@ -41,6 +41,18 @@ impl From<u32> for Term {
     }
 }
 
+impl Equation {
+    // The equation of the terms that two words hold.
+    pub fn of_words(left: u32, right: u32) -> Equation
+        ensures { result ≡ words.equation (words.term_of left) (words.term_of right) }
+    {
+        Equation {
+            left: Term::from(left),
+            right: Term::from(right),
+        }
+    }
+}
+
 // The word that holds a term.
 pub fn word_of(t: Term) -> u32
     requires { words.word_of t < 2 ^ 32 }

@@ -6,8 +6,8 @@ use Rattle.operations.specs.declared.answer.BuildFault.{BuildFault}
 use Rattle.operations.specs.declared.answer.Built.{Built}
 use Rattle.operations.specs.declared.answer.Built.TheVariants as built
 use Rattle.operations.specs.Operations as operation
-use Rattle.store.specs.declared.answer.Opened.{Opened}
-use Rattle.store.specs.declared.answer.Opened.TheVariants as opened
+use Rattle.store.specs.Opened.{Opened}
+use Rattle.std.specs.Prelude.{Ok, Err}
 use Rattle.store.specs.declared.answer.OpenFault.{OpenFault}
 use Rattle.store.specs.Open.{open_store}
 use Rattle.store.specs.Outcome.{Outcome, outcome}
@@ -28,11 +28,11 @@ module _ (limits : Limits) (n order : ℕ) (list first second s : List ℕ) wher
   promised e = (e, subst (λ (o : Outcome Joins). SameHandles o.answer) (sym e) (joins_alike limits n order list first second s))
 
   module _ {o : Opened} {w₀ : List ℕ} (p₀ : outcome o w₀ ≡ open_store limits n order list s) where
-    pub not_open : {f : OpenFault} → o ≡ opened.Refused f → Promised Refused w₀
+    pub not_open : {f : OpenFault} → o ≡ Err f → Promised Refused w₀
     unfolding joined_both_ways after_opening after_building
     not_open t = promised (rw (← p₀, t))
 
-    module _ (q₀ : o ≡ opened.Accepted) {r₁ : Built} {w₁ : List ℕ} (p₁ : outcome r₁ w₁ ≡ operation.build limits w₀ first) where
+    module _ (q₀ : o ≡ Ok tt) {r₁ : Built} {w₁ : List ℕ} (p₁ : outcome r₁ w₁ ≡ operation.build limits w₀ first) where
       pub no_first : {f : BuildFault} → r₁ ≡ built.Refused f → Promised Refused w₁
       unfolding joined_both_ways after_opening after_building
       no_first t = promised (rw (← p₀, q₀, ← p₁, t))

@@ -9,8 +9,8 @@ use Rattle.operations.specs.declared.answer.Built.TheVariants.{Handle}
 use Rattle.operations.specs.Handles.{Call, build, join, answer_to, Rule, Pair, pair, first_ledger, rule_of, rule_of_call, enter, Books, opened_books, after, run, In, newest, older}
 use Rattle.operations.specs.Kept.{Kept}
 use Rattle.terms.specs.declared.limits.Limits.{Limits}
-use Rattle.store.specs.declared.answer.Opened.{Opened}
-use Rattle.store.specs.declared.answer.Opened.TheVariants as opened
+use Rattle.store.specs.Opened.{Opened}
+use Rattle.std.specs.Prelude.{Ok, Err}
 use Rattle.store.specs.Open.{opening, opened_words, open_store}
 use Rattle.store.specs.Open as spec
 use Rattle.store.specs.Outcome.{Outcome, outcome}
@@ -44,7 +44,7 @@ known : {limits : Limits} {b : Books} → Kept limits b → (h : ℕ) (r : Rule)
 known k h r i v = sym (rule_is_meaning k h v) ∙ stands_means k.sound (k.each (pair h r) i) v
 
 -- ---- the five calls
-module _ (limits : Limits) (n order : ℕ) (list s first second : List ℕ) (e : opening limits n order list (length s) ≡ opened.Accepted) (a b c d : ℕ) where
+module _ (limits : Limits) (n order : ℕ) (list s first second : List ℕ) (e : opening limits n order list (length s) ≡ Ok tt) (a b c d : ℕ) where
   abbrev books₀ : Books
   books₀ = opened_books n order list (length s)
 
@@ -103,14 +103,14 @@ module _ (limits : Limits) (n order : ℕ) (list s first second : List ℕ) (e :
 -- ---- a claim about what follows a call, which is accepted or refused
 module _ (P : Outcome Joins → Type 0) where
   by_opened : (limits : Limits) (n order : ℕ) (list s : List ℕ) (rest : List ℕ → Outcome Joins)
-      → (opening limits n order list (length s) ≡ opened.Accepted → P (rest (opened_words n order list (length s)))) → P (outcome Refused s)
+      → (opening limits n order list (length s) ≡ Ok tt → P (rest (opened_words n order list (length s)))) → P (outcome Refused s)
       → P (after_opening (open_store limits n order list s) rest)
   unfolding open_store after_opening
   by_opened limits n order list s rest goes_on stops = go (opening limits n order list (length s)) refl
     where
       go : (o : Opened) → opening limits n order list (length s) ≡ o → P (after_opening (spec.opened o n order list s) rest)
-      go opened.Accepted e = goes_on e
-      go (opened.Refused f) e = stops
+      go (Ok tt) e = goes_on e
+      go (Err f) e = stops
 
   by_built : (o : Outcome Built) (rest : ℕ → List ℕ → Outcome Joins)
       → ((h : ℕ) → o.answer ≡ Handle h → P (rest h o.words)) → P (outcome Refused o.words) → P (after_building o rest)
