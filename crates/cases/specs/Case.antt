@@ -6,8 +6,7 @@ use Rattle.examples.specs.LargestGap.{list_gap}
 use Rattle.normal_form.specs.Check as normal_form
 use Rattle.normal_form.specs.CheckAnswer.{checked_number, checked_result}
 use Rattle.normal_form.specs.Limits.{table_limits}
-use Rattle.operations.specs.declared.answer.Built.{Built}
-use Rattle.operations.specs.Built.{built_number, built_result}
+use Rattle.operations.specs.Built.{Built, built_number, built_result}
 use Rattle.operations.specs.Operations as operation
 use Rattle.raw_lists.specs.OpenRaw as raw_lists
 use Rattle.raw_lists.specs.RawOpened.{raw_number}

@@ -15,13 +15,12 @@ use Rattle.logger.specs.Beyond.{Beyond}
 use Rattle.logger.specs.MixedCalls.{by_either, run_within, EachSmaller}
 use Rattle.logger.specs.AnswersTo.{answers_to}
 use Rattle.operations.specs.declared.answer.BuildFault.TheVariants.{NotSound, NoRoom}
-use Rattle.operations.specs.declared.answer.Built.TheVariants.{Handle, Refused}
+use Rattle.std.specs.Prelude.{Ok, Err}
 use Rattle.operations.specs.BooleanLaws.{Formula, BooleanLaw, Worked}
 use Rattle.operations.specs.Built.{built_number}
 use Rattle.operations.specs.Handles as handles
 use Rattle.operations.specs.Handles.{Call, Books, opened_books, run, HandleLaw}
 use Rattle.operations.specs.Operations.{refused, build}
-use Rattle.std.specs.Prelude.{Ok}
 use Rattle.store.specs.Layout.{used, room}
 use Rattle.store.specs.Meaning.{meaning}
 use Rattle.store.specs.Open.{opening, opened_words, open_store}
@@ -59,12 +58,12 @@ module _ (n order : ℕ) (list s : List ℕ) (e : opening logger_limits n order 
 
 module _ (s table : List ℕ) where
   -- the handle means what the table's last row does
-  pub logger_build_means : (h : ℕ) → (build logger_limits s table).answer ≡ Handle h → (v : Valuation) → meaning (build logger_limits s table).words h v ≡ rule_meaning table v
+  pub logger_build_means : (h : ℕ) → (build logger_limits s table).answer ≡ Ok h → (v : Valuation) → meaning (build logger_limits s table).words h v ≡ rule_meaning table v
   logger_build_means = build_means logger_limits s table
 
   -- "51 above 200 entries": of a sound store and a table without a fault, exactly if the entries used and the new ones exceed the room
   pub logger_full_exactly : sound logger_limits s ≡ true → table_fault logger_limits s table ≡ none
-      → ((build logger_limits s table).answer ≡ Refused NoRoom) ↔ (room logger_limits s < used s + new_count s (finished_in s (rule_meaning table)))
+      → ((build logger_limits s table).answer ≡ Err NoRoom) ↔ (room logger_limits s < used s + new_count s (finished_in s (rule_meaning table)))
   logger_full_exactly is taken =
       let snd = sound_says logger_limits s is in
       rw (call_on_sound snd (handles.build table), taken) (full_exactly snd (rule_meaning table))
@@ -118,7 +117,7 @@ pub logger_open_same : (n order : ℕ) (list s : List ℕ) → (open_store logge
 logger_open_same = smaller_opens logger_smaller
 
 -- and so is its build: the same handle and the same words.
-pub logger_build_same : (s table : List ℕ) (h : ℕ) → (build logger_limits s table).answer ≡ Handle h → build store_limits s table ≡ build logger_limits s table
+pub logger_build_same : (s table : List ℕ) (h : ℕ) → (build logger_limits s table).answer ≡ Ok h → build store_limits s table ≡ build logger_limits s table
 logger_build_same s table = smaller_calls logger_smaller s (handles.build table)
 
 -- The handle law covers the logger's calls and the institute's on the logger's store, in whatever order they come, accepted or refused.

@@ -9,8 +9,7 @@ use lib.ListN.{length, get_or, drop, replicate, length-take, length-drop, get_or
 use lib.Seq.{get_or-take, get_or-drop, ext_get_or}
 use Rattle.logger.specs.SameStores.{entry_words, SameStores, AcceptedAlike, SameRuns}
 use Rattle.logger.specs.AnswersTo.{answers_to}
-use Rattle.operations.specs.declared.answer.Built.{Built}
-use Rattle.operations.specs.Built.{built_number, built_result}
+use Rattle.operations.specs.Built.{Built, built_number, built_result}
 use Rattle.operations.specs.Handles.{Call, answer_to, Books, opened_books, after, run}
 use Rattle.std.specs.Prelude.{Ok}
 use Rattle.store.specs.Layout.{heading_length, used_place, used, entries_start}

@@ -7,7 +7,7 @@ use mathlib.Core.List.{List}
 use native.Mathlib.Omega.{arith}
 use lib.ListN.{length}
 use Rattle.operations.specs.declared.answer.BuildFault.TheVariants.{NotSound}
-use Rattle.operations.specs.declared.answer.Built.TheVariants as built_answers
+use Rattle.std.specs.Prelude.{Ok, Err}
 use Rattle.operations.specs.BooleanLaws.{Formula, BooleanLaw, Worked}
 use Rattle.operations.specs.Handles.{Call, answer_to, Books, first_books, run, HandleLaw}
 use Rattle.operations.specs.Kept.{Kept}
@@ -15,7 +15,6 @@ use Rattle.operations.specs.Openings.{Opening, by_list, by_raw_list, opened_by}
 use Rattle.raw_lists.specs.declared.answer.RawFault.{RawFault}
 use Rattle.raw_lists.specs.declared.answer.RawFault.TheVariants as raw_faults
 use Rattle.raw_lists.specs.RawOpened.{RawOpened, raw_number}
-use Rattle.std.specs.Prelude.{Ok, Err}
 use Rattle.raw_lists.specs.OpenRaw.{resulting_list, open_raw}
 use Rattle.store.specs.declared.answer.OpenFault.{OpenFault}
 use Rattle.store.specs.declared.answer.OpenFault.TheVariants.{TooManyFields, UnknownOrder, OddList, TooManyQuestions, OutOfLimits, NotSimplified, NotAbove, TooShort}
@@ -110,5 +109,5 @@ module _ (limits : Limits) (o : Opening) (s : List ℕ) (e : (opened_by limits o
   either_boolean_law letters f g law h k b w u = kept_boolean_law kept_books {f = f} {g = g} law w u
 
   -- Of the store of such a run no call answers 22.
-  pub either_never_not_sound : (c : Call) → (answer_to limits books.words c).answer ≢ built_answers.Refused NotSound
+  pub either_never_not_sound : (c : Call) → (answer_to limits books.words c).answer ≢ Err NotSound
   either_never_not_sound = sound_not_refused kept_books.sound

@@ -4,8 +4,7 @@ use Rattle.examples.specs.declared.answer.Example.{Example}
 use Rattle.examples.specs.Example.{example_number}
 use Rattle.normal_form.specs.declared.answer.CheckAnswer.{CheckAnswer}
 use Rattle.normal_form.specs.CheckAnswer.{checked_number, checked_result}
-use Rattle.operations.specs.declared.answer.Built.{Built}
-use Rattle.operations.specs.Built.{built_number, built_result}
+use Rattle.operations.specs.Built.{Built, built_number, built_result}
 use Rattle.raw_lists.specs.RawOpened.{RawOpened, raw_number}
 use Rattle.sheet.specs.declared.answers.Answer.{Answer}
 use Rattle.reading.specs.declared.answer.Read.{Read}
