@@ -122,7 +122,7 @@ fn body_sound(s: &[u32], start: usize, used: usize) -> bool
     ensures { result ≡ body_sound s.now used }
 {
     if entries_sound(s, start, used) {
-        if index::entries_differ(s, start, used) {
+        if index::entries_differ::<Entry>(s, start, used) {
             return zero_from(s, start + 3 * used);
         }
     }

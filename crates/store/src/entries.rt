@@ -8,7 +8,7 @@ ghost use Rattle.store.specs.Sound as sound;
 use crate::words::{entries_start, set_used, used, wide};
 
 // A question's number, and the handles of its yes part and its no part.
-#[derive(Clone, Copy)]
+#[derive(Clone, Copy, PartialEq, Eq)]
 pub struct Entry {
     pub question: u32,
     pub yes: u32,
