@@ -17,7 +17,7 @@ use Rattle.facts.specs.declared.fact.Fact.{Fact}
 use Rattle.facts.specs.Facts.{fact, Fits, Forces}
 use Rattle.facts.specs.Least.{IsLeast, Near, All, RestsOn, least_count, fixed, least_sheet}
 use Rattle.facts.specs.Needs.{most_offset, Within, Askable}
-use Rattle.facts.specs.Record.{state, last_field, most_noes, question_at, noes_in, Small, AllSmall, Holds, AskedOf}
+use Rattle.facts.specs.Record.{state, last_field, most_noes, question_at, noes_in, Small, AllSmall, Holds, AskedOf, asked_decision}
 use Rattle.terms.specs.Limits.{most_count}
 use Rattle.facts.specs.State.{State, Fit, settled, free, left_side, right_side, joined, planned, certain, no_to, yes_to, work_in, start, state_of, decide}
 use Rattle.terms.proofs.Cases.{by_eq, by_test}
@@ -163,7 +163,7 @@ module _ {most_no most : ℕ} {f : Facts} (h : Holds most_no most f) where
 
   -- ---- what asking gives
   -- The decision is right in all three answers, for the facts that the record holds.
-  pub asked_forces : (q : Equation) (r : Asked) → AskedOf f q r → Forces h.facts q r.decision
+  pub asked_forces : (q : Equation) (r : Asked) → AskedOf f q r → Forces h.facts q (asked_decision r)
   asked_forces q r a = subst (Forces h.facts q) (sym (a.decision_is ∙ ap (λ s. decide s q) h.is)) (decided h.facts q (sym (ap free h.is) ∙ h.fitted))
 
   module _ (q : Equation) (small : Small most q) (o : decide (state f) q ≡ Open) where

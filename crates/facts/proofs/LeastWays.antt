@@ -1,21 +1,17 @@
--- Finding the least count by counting up from the offset: a candidate that fails is below the least count, and one that does not is the least.
-use Prim.Native.Nat.{ℕ, zero, suc, ◌+◌, ◌-◌, ◌≤◌, ◌<◌}
+-- The least sheet, field by field: the record and the counts once the fields below one are fixed.
+use Prim.Native.Nat.{ℕ, zero, suc, ◌+◌, ◌≤◌, ◌<◌}
 use mathlib.Core.Path.{◌≡◌, refl, sym, ap, subst, ◌∙◌}
-use mathlib.Core.Logic.{◌≢◌}
-use mathlib.Core.Bool.{true, false, true≢false}
 use mathlib.Core.List.{List, [], ◌∷◌}
 use native.Mathlib.Omega.{arith}
 use native.Mathlib.Decide.{ℕ_discrete}
 use lib.ListN.{length, get_or, set, length-set}
 use lib.Seq.{get_or-set_same, get_or-set_other}
-use Rattle.terms.specs.declared.term.Equation.{Equation}
 use Rattle.facts.specs.declared.least.Fixed.{Fixed}
 use Rattle.facts.specs.declared.record.Facts.{Facts}
-use Rattle.facts.specs.declared.working.Worked.{Worked}
 use Rattle.facts.specs.declared.fact.Fact.{Fact}
-use Rattle.facts.specs.Least.{counts, can_count, least_count, fixed, least_sheet}
-use Rattle.facts.specs.Needs.{Askable, CanFix, FixedAt, HasLeast}
-use Rattle.facts.specs.Record.{state, last_field, field_places, most_noes, Small, AllSmall, Holds, WorkedYes, LeastCounts}
+use Rattle.facts.specs.Least.{counts, least_count, fixed, least_sheet}
+use Rattle.facts.specs.Needs.{CanFix, FixedAt, HasLeast}
+use Rattle.facts.specs.Record.{state, last_field, field_places, most_noes, Small, AllSmall, Holds, LeastCounts}
 use Rattle.terms.specs.Limits.{most_count}
 use Rattle.facts.specs.State.{ZeroKept, State, at, free, yes_to}
 use Rattle.facts.proofs.HeldFacts.{small_more, holds_within, worked_yes, least_counts_bound}
@@ -32,34 +28,6 @@ holds_more {m = m} {n = n} l h = record { facts = h.facts; small = all_more h.fa
     all_more : (xs : List Fact) → AllSmall m xs → AllSmall n xs
     all_more [] a = tt
     all_more (x ∷ xs) a = (small_more l a.0, all_more xs a.1)
-
-module _ {f : Facts} {x : ℕ} (can : CanFix f x) {count : ℕ} (up_to : count ≤ least_count (state f) x) where
-  pub fix_ready : {q : Equation} → q ≡ counts x count → Askable f q
-  fix_ready e = record {
-    within = can.within;
-    small = subst (Small most_count) (sym e) (fix_small can.on_field (omega (arith, can.small_count)));
-    fitted = can.fitted;
-  }
-
-  module _ {q : Equation} (e : q ≡ counts x count) {w : Worked} (y : WorkedYes f q w) where
-    tested : w.free ≡ can_count (state f) x count
-    tested = y.free_is ∙ ap (λ p. free (yes_to (state f) p)) e
-
-    pub fix_found : w.free ≡ true → FixedAt f x (record { count = count; facts = w.facts })
-    fix_found t =
-        let same : count ≡ least_count (state f) x = omega (arith, can.least_can count (sym tested ∙ t)) in
-        record { count_is = same; state_is = y.state_is t ∙ ap (yes_to (state f)) (e ∙ ap (counts x) same) }
-
-    fix_more : w.free ≡ false → count < least_count (state f) x
-    fix_more t =
-        let n : count ≢ least_count (state f) x = λ d. true≢false (sym can.can ∙ ap (can_count (state f) x) (sym d) ∙ sym tested ∙ t) in
-        omega arith
-
-    pub fix_less : w.free ≡ false → least_count (state f) x - (count + 1) < least_count (state f) x - count
-    fix_less t = omega (arith, fix_more t)
-
-    pub fix_again : w.free ≡ false → count + 1 ≤ least_count (state f) x
-    fix_again t = omega (arith, fix_more t)
 
 -- ---- all fields
 -- the record and the counts when the fields below i are fixed

@@ -2,12 +2,10 @@
 use Prim.Native.Nat.{ℕ, zero, suc, ◌+◌, ◌≤◌, ◌<◌, ◌^◌}
 use mathlib.Core.Path.{◌≡◌, refl, sym, ap, subst, ◌∙◌}
 use mathlib.Core.Bool.{Bool, true, false, cond, false≢true}
-use mathlib.Core.List.{List, [], ◌∷◌}
+use mathlib.Core.List.{List}
 use native.Mathlib.Omega.{arith}
 use borrow.Author.Tests.{eq-eqb}
 use lib.ListN.{length, get_or}
-use denote.Enum.Declared.{tag_of}
-use types.Run.{OneOf, miss}
 use Rattle.terms.specs.declared.term.Equation.{Equation}
 use Rattle.facts.specs.declared.decision.Decision.{Decision}
 use Rattle.facts.specs.declared.decision.Decision.TheVariants.{Always, Never, Open}
@@ -17,10 +15,9 @@ use Rattle.facts.specs.declared.record.Facts.{Facts}
 use Rattle.facts.specs.declared.fact.Fact.{Fact}
 use Rattle.facts.specs.Facts.{fact}
 use Rattle.facts.specs.Needs.{most_offset, Askable, CanAnswerYes, CanAnswerNo, CanAnswer, CanAddFact, CanJoin}
-use Rattle.facts.specs.Record.{state, last_field, noes_in, WorkedYes, AskedOf}
+use Rattle.facts.specs.Record.{state, last_field, noes_in}
 use Rattle.terms.specs.Limits.{most_count}
 use Rattle.facts.specs.State.{State, settled, free, plan, plan_of, planned, no_to, yes_to, work_in, decide}
-use Rattle.facts.specs.contracts.decision.Decision.{the_type}
 use Rattle.facts.proofs.PlanCases.{plan_cases}
 
 -- ---- what is joined
@@ -64,17 +61,6 @@ clash_not_free s =
     rw (eq-eqb (s.classes.class 0) (s.classes.class 0) refl, eq-eqb (s.classes.offset 0 + 0) (s.classes.offset 0 + 0) refl) refl
 
 module _ (f : Facts) (q : Equation) (r : Askable f q) {x : Plan} (ex : x ≡ plan_of (state f).classes q) where
-  yes_is : yes_to (state f) q ≡ planned (state f) x
-  yes_is = ap (planned (state f)) (sym ex)
-
-  pub worked_keep : x ≡ Keep → WorkedYes f q (record { free = true; facts = f })
-  worked_keep d =
-      let same : yes_to (state f) q ≡ state f = yes_is ∙ ap (planned (state f)) d in
-      record { free_is = sym (ap free same ∙ r.fitted); state_is = λ _. sym same }
-
-  pub worked_clash : x ≡ Clash → WorkedYes f q (record { free = false; facts = f })
-  worked_clash d = record { free_is = sym (ap free (yes_is ∙ ap (planned (state f)) d) ∙ clash_not_free (state f)); state_is = λ b. absurd (false≢true b) }
-
   module _ {into from by : ℕ} (d : x ≡ Join into from by) where
     low : (into ≤ last_field) × (from ≤ last_field) × (by ≤ most_offset + most_count)
     low =
@@ -92,12 +78,6 @@ module _ (f : Facts) (q : Equation) (r : Askable f q) {x : Plan} (ex : x ≡ pla
 
     pub join_raise : (k : ℕ) → k ≤ last_field → get_or f.offset k 0 + by < 2 ^ 32
     join_raise k h = omega (arith, r.within.offset_in k h, low.2)
-
-    pub worked_join : {g : Facts} {b : Bool} → b ≡ free (planned (state f) (Join into from by)) → state g ≡ planned (state f) (Join into from by)
-        → WorkedYes f q (record { free = b; facts = g })
-    worked_join eb e =
-        let same : planned (state f) (Join into from by) ≡ yes_to (state f) q = sym (yes_is ∙ ap (planned (state f)) d) in
-        record { free_is = eb ∙ ap free same; state_is = λ _. e ∙ same }
 
 -- ---- a fact
 -- where the answer yes leaves some choice of counts, there is no clash
@@ -128,10 +108,6 @@ module _ (f : Facts) (x : Fact) (can : CanAddFact f x) where
   worked_in_no g a e = e ∙ ap (work_in (state f) x.question) (sym a)
 
 -- ---- a question asked
--- the numbers of the cases that are not open
-abbrev known : List ℕ
-known = 0 ∷ 1 ∷ []
-
 is_open : Decision → Bool
 is_open Always = false
 is_open Never = false
@@ -147,11 +123,5 @@ open_free s q = go (settled s.classes q) (free (yes_to s q))
     go false false e = absurd (false≢true (ap is_open e))
 
 module _ (f : Facts) (q : Equation) {d : Decision} (e : d ≡ decide (state f) q) where
-  pub asked_known : OneOf known (tag_of the_type d) → (g : Facts) → AskedOf f q (record { decision = d; yes = g })
-  asked_known h g = record { decision_is = e; yes_is = λ o. absurd (miss known 2 tt (subst (λ x. OneOf known (tag_of the_type x)) o h)) }
-
   pub can_yes : d ≡ Open → Askable f q → CanAddFact f (fact q true)
   can_yes o r = record { can = record { askable = r; leaves_some = open_free (state f) q (sym e ∙ o) } }
-
-  pub asked_open : d ≡ Open → {g : Facts} → state g ≡ yes_to (state f) q → AskedOf f q (record { decision = Open; yes = g })
-  asked_open o y = record { decision_is = sym o ∙ e; yes_is = λ _. y }

@@ -1,13 +1,14 @@
 -- The state that a record of facts stands for, and what the promises say by it.
-use Rattle.std.specs.Prelude.{ℕ, zero, suc, ◌≤◌, ◌≡◌, true, List, [], ◌∷◌, get_or}
+use Rattle.std.specs.Prelude.{ℕ, zero, suc, ◌≤◌, ◌≡◌, true, false, List, [], ◌∷◌, get_or, Option, Some, None}
 use Rattle.terms.specs.declared.term.Equation.{Equation}
 use Rattle.terms.specs.Limits.{most_fields, most_questions}
 use Rattle.terms.specs.Words.{equation, term_of}
-use Rattle.facts.specs.declared.decision.Decision.TheVariants.{Open}
+use Rattle.facts.specs.declared.decision.Decision.{Decision}
+use Rattle.facts.specs.declared.decision.Decision.TheVariants.{Always, Never, Open}
 use Rattle.facts.specs.declared.least.Sheet.{Sheet}
 use Rattle.facts.specs.declared.record.Facts.{Facts}
 use Rattle.facts.specs.declared.asking.Asked.{Asked}
-use Rattle.facts.specs.declared.working.Worked.{Worked}
+use Rattle.facts.specs.declared.asking.Asked.TheVariants as asked
 use Rattle.facts.specs.declared.fact.Fact.{Fact}
 use Rattle.facts.specs.Least.{least_sheet}
 use Rattle.facts.specs.State.{Classes, State, at, free, yes_to, state_of, decide}
@@ -56,15 +57,21 @@ pub record Holds (most_no most : ℕ) (f : Facts) : Type 0 where
   pub fitted : free (state f) ≡ true
   pub few : f.noes ≤ most_no
 
--- what working a yes in promises: whether the state is free, and, if so, that the record has it
-pub record WorkedYes (f : Facts) (q : Equation) (r : Worked) : Type 0 where
-  pub free_is : r.free ≡ free (yes_to (state f) q)
-  pub state_is : r.free ≡ true → state r.facts ≡ yes_to (state f) q
+-- what working a yes in promises: the record of a yes exactly if the state is free then
+abbrev pub WorkedYes : Facts → Equation → Option Facts → Type 0
+WorkedYes f q (Some g) = (free (yes_to (state f) q) ≡ true) × (state g ≡ yes_to (state f) q)
+WorkedYes f q None = free (yes_to (state f) q) ≡ false
+
+-- the decision that is answered
+abbrev pub asked_decision : Asked → Decision
+asked_decision asked.Always = Always
+asked_decision asked.Never = Never
+asked_decision (asked.Open g) = Open
 
 -- what asking promises: the decision, and, if the question is open, the record of a yes
 pub record AskedOf (f : Facts) (q : Equation) (r : Asked) : Type 0 where
-  pub decision_is : r.decision ≡ decide (state f) q
-  pub yes_is : r.decision ≡ Open → state r.yes ≡ yes_to (state f) q
+  pub decision_is : asked_decision r ≡ decide (state f) q
+  pub yes_is : (g : Facts) → r ≡ asked.Open g → state g ≡ yes_to (state f) q
 
 -- each field's count in the least sheet
 pub record LeastCounts (f : Facts) (n : ℕ) (r : Sheet) : Type 0 where

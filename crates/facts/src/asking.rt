@@ -1,5 +1,4 @@
 // Asking a question of the facts.
-ghost use Rattle.std.specs.Prelude.{◌≡◌};
 ghost use Rattle.facts.specs.Needs as need;
 ghost use Rattle.facts.specs.Record as spec;
 
@@ -10,11 +9,12 @@ use crate::fact::Fact;
 use crate::record::Facts;
 use terms::Equation;
 
-// What the facts say of a question and, where it is open, the facts with it answered yes.
+// What the facts say of a question: where it is open, with the facts that have it answered yes.
 #[derive(Clone, Copy)]
-pub struct Asked {
-    pub decision: Decision,
-    pub yes: Facts,
+pub enum Asked {
+    Always,
+    Never,
+    Open(Facts),
 }
 
 // The question is decided first, and a yes is worked in only where it is open.
@@ -22,19 +22,15 @@ pub fn ask(f: Facts, q: Equation) -> Asked
     requires { need.Askable f q }
     ensures { spec.AskedOf f q result }
 {
-    let decision = decision_of(f, q);
-    let Decision::Open = decision else {
-        return Asked { decision, yes: f };
-    };
-    let g = added(
-        f,
-        Fact {
-            question: q,
-            answer: true,
-        },
-    );
-    Asked {
-        decision: Decision::Open,
-        yes: g,
+    match decision_of(f, q) {
+        Decision::Always => Asked::Always,
+        Decision::Never => Asked::Never,
+        Decision::Open => Asked::Open(added(
+            f,
+            Fact {
+                question: q,
+                answer: true,
+            },
+        )),
     }
 }

@@ -45,10 +45,8 @@ fn fix_field(f: Facts, x: Field) -> Fixed
 {
     let mut count = offset_of(f, x);
     loop {
-        let w = yes(f, has_count(x, count));
-        if w.free {
-            let g = w.facts;
-            return Fixed { count, facts: g };
+        if let Some(facts) = yes(f, has_count(x, count)) {
+            return Fixed { count, facts };
         }
         count += 1;
     }

@@ -17,4 +17,4 @@ pub use decision::{Decision, Plan, plan_yes};
 pub use fact::Fact;
 pub use least::{Fixed, Sheet, least_sheet};
 pub use record::{FIELDS, Facts, no_facts, offset_of};
-pub use working::{Worked, yes};
+pub use working::yes;

@@ -10,13 +10,6 @@ use crate::fact::Fact;
 use crate::record::{FIELDS, Facts};
 use terms::{Equation, word_of};
 
-// A record, and whether some choice of counts fits it.
-#[derive(Clone, Copy)]
-pub struct Worked {
-    pub free: bool,
-    pub facts: Facts,
-}
-
 // A field moves to the class `into`, its offset `by` higher.
 fn join_field(mut f: Facts, i: usize, into: u32, by: u32) -> Facts
     requires { need.CanRaise f i by }
@@ -44,23 +37,19 @@ fn join(mut f: Facts, into: u32, from: u32, by: u32) -> Facts
 }
 
 // The facts with a question answered yes, if some choice of counts fits them then.
-pub fn yes(f: Facts, q: Equation) -> Worked
+pub fn yes(f: Facts, q: Equation) -> Option<Facts>
     requires { need.Askable f q }
     ensures { spec.WorkedYes f q result }
 {
     match plan_in(&f.class, &f.offset, q) {
-        Plan::Keep => Worked {
-            free: true,
-            facts: f,
-        },
-        Plan::Clash => Worked {
-            free: false,
-            facts: f,
-        },
-        Plan::Join { into, from, by } => Worked {
-            free: join_is_free(f, into, from, by),
-            facts: join(f, into, from, by),
-        },
+        Plan::Keep => Some(f),
+        Plan::Clash => None,
+        Plan::Join { into, from, by } => {
+            if join_is_free(f, into, from, by) {
+                return Some(join(f, into, from, by));
+            }
+            None
+        }
     }
 }
 

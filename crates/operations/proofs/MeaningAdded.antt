@@ -4,8 +4,7 @@ use Prim.Native.Nat.{ℕ}
 use mathlib.Core.Path.{◌≡◌, refl, sym, ap, ◌∙◌, subst}
 use mathlib.Core.Bool.{Bool}
 use mathlib.Core.List.{List}
-use Rattle.diagram.specs.declared.placing.Placed.{Placed}
-use Rattle.diagram.specs.declared.placing.Placed.TheVariants.{At, Full}
+use Rattle.std.proofs.Common.{Option, Some, None}
 use Rattle.diagram.specs.Insert.{insert}
 use Rattle.diagram.specs.Inserted.{Inserted}
 use Rattle.diagram.specs.Questions.{finished_in}
@@ -32,13 +31,13 @@ use Rattle.operations.proofs.NumberedQuestions.{questions_alike}
 use Rattle.operations.proofs.StandingDiagrams.{later_same, stands_alike, rests_later, finished_later, stands_means}
 
 pub added_cases : (limits : Limits) (s : List ℕ) (t : Tree) (P : Outcome Built → Type 0)
-    → ((h : ℕ) → (insert limits s t).answer ≡ At h → P (outcome (Ok h) (insert limits s t).words)) → P (refused s NoRoom) → P (added limits s t)
+    → ((h : ℕ) → (insert limits s t).answer ≡ Some h → P (outcome (Ok h) (insert limits s t).words)) → P (refused s NoRoom) → P (added limits s t)
 unfolding added
 added_cases limits s t P at full = go (insert limits s t).answer refl
   where
-    go : (a : Placed) → (insert limits s t).answer ≡ a → P (added limits s t)
-    go (At h) d = rw (added, d) (at h d)
-    go Full d = rw (added, d) full
+    go : (a : Option ℕ) → (insert limits s t).answer ≡ a → P (added limits s t)
+    go (Some h) d = rw (added, d) (at h d)
+    go None d = rw (added, d) full
 
 inserted_later : {limits : Limits} {s : List ℕ} {t : Tree} {h : ℕ} {s' : List ℕ} → Inserted limits s t h s' → Later limits s s'
 inserted_later i = record {

@@ -1,9 +1,7 @@
 -- Build, negate, join and choose: the finished diagram of a meaning is added to the store, or nothing is changed. Each line that refuses stands
 -- once, and goes on where its condition is not met.
-use Rattle.std.specs.Prelude.{ℕ, Bool, cond, not, ◌&&◌, List, Ok, Err}
+use Rattle.std.specs.Prelude.{ℕ, Bool, cond, not, ◌&&◌, List, Option, Some, None, Ok, Err}
 use Rattle.std.proofs.Math.Option.{Option, none, some}
-use Rattle.diagram.specs.declared.placing.Placed.{Placed}
-use Rattle.diagram.specs.declared.placing.Placed.TheVariants.{At, Full}
 use Rattle.diagram.specs.Insert.{insert}
 use Rattle.diagram.specs.Questions.{finished_in}
 use Rattle.operations.specs.declared.answer.BuildFault.{BuildFault}
@@ -38,8 +36,8 @@ if_taken s none next = next
 if_taken s (some f) next = refused s (BadTable f)
 
 -- "51, used plus new entries exceeds room": then every word is as it came, here s
-abbrev pub unless_full : List ℕ → Outcome Placed → Outcome Built
-unless_full s o = elim o.answer as (λ _. Outcome Built) [ At h ↦ outcome (Ok h) o.words | Full ↦ refused s NoRoom ]
+abbrev pub unless_full : List ℕ → Outcome (Option ℕ) → Outcome Built
+unless_full s o = elim o.answer as (λ _. Outcome Built) [ Some h ↦ outcome (Ok h) o.words | None ↦ refused s NoRoom ]
 
 unfoldable pub added : Limits → List ℕ → Tree → Outcome Built
 added limits s t = unless_full s (insert limits s t)

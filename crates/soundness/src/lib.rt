@@ -90,7 +90,7 @@ fn body_sound(s: &[u32], start: usize, used: usize) -> bool
     ensures { result ≡ body_sound s.now used }
 {
     entries_sound(s, start, used)
-        && index::entries_differ(s, start, used)
+        && index::entries_differ::<Entry>(s, start, used)
         && zero_from(s, start + 3 * used)
 }
 

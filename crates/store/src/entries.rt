@@ -2,7 +2,6 @@
 ghost use Rattle.std.specs.Prelude.{◌≡◌};
 ghost use Rattle.store.specs.Entries as spec;
 ghost use Rattle.store.specs.Layout as layout;
-ghost use Rattle.store.specs.Sound as sound;
 ghost use Rattle.store.specs.Needs.{HasEntry, EntryFrom, CanAppend};
 
 use crate::words::{entries_start, set_used, used, wide};
@@ -34,13 +33,6 @@ pub fn entry_of(s: &[u32], i: usize) -> Entry
     ensures { result ≡ layout.entry s.now i }
 {
     entry_from(s, entries_start(s), i)
-}
-
-// Whether two entries are equal.
-pub fn same_entry(d: Entry, e: Entry) -> bool
-    ensures { result ≡ sound.same_entry d e }
-{
-    d == e
 }
 
 // Writes an entry after the last.

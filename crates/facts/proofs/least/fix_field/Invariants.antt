@@ -4,8 +4,8 @@ use Rattle.facts.specs.Least.{least_count}
 use Rattle.facts.specs.Record.{state}
 use Rattle.facts.proofs.least.fix_field.Given as goal
 
-abbrev pub invariant-loop-f : goal.invariant-loop-f
-invariant-loop-f l = l.count ≤ least_count (state l.f) l.x.0
+abbrev pub invariant-loop-facts : goal.invariant-loop-facts
+invariant-loop-facts l = l.count ≤ least_count (state l.f) l.x.0
 
-abbrev pub decreases-loop-f : goal.decreases-loop-f
-decreases-loop-f l = least_count (state l.f) l.x.0 - l.count
+abbrev pub decreases-loop-facts : goal.decreases-loop-facts
+decreases-loop-facts l = least_count (state l.f) l.x.0 - l.count
