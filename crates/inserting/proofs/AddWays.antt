@@ -18,7 +18,7 @@ use Rattle.inserting.specs.Given.{Taken}
 use Rattle.inserting.specs.Needs.{whole_walk, restored, CanWalkAll, CanAdd}
 use Rattle.inserting.specs.SubjectMeaning.{subject_meaning}
 use Rattle.operations.specs.declared.answer.BuildFault.TheVariants.{NoRoom}
-use Rattle.operations.specs.declared.answer.Built.TheVariants.{Handle}
+use Rattle.std.specs.Prelude.{Ok}
 use Rattle.operations.specs.Operations.{refused, unless_full, added, add_meaning}
 use Rattle.store.specs.Grown.{Agree}
 use Rattle.store.specs.Layout.{heading_length, question_count, used_place, used, with_used, entries_start, entry, cleared_from}
@@ -147,7 +147,7 @@ module _ {limits : Limits} {s : List ℕ} {subject : Subject} (can : CanAdd limi
     unfolding added
     adds = ap (unless_full s) (e ∙ walk_inserts store_sound can.given)
 
-    pub added_at : (h : ℕ) → r ≡ Some h → outcome (Handle h) t ≡ add_meaning limits s (subject_meaning s subject)
+    pub added_at : (h : ℕ) → r ≡ Some h → outcome (Ok h) t ≡ add_meaning limits s (subject_meaning s subject)
     added_at h er = ap (λ a. unless_full s (outcome a t)) (sym er) ∙ adds
 
     module _ {u : ℕ} (eu : u ≡ used s) (same : length t ≡ length s) where

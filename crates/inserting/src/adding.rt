@@ -8,7 +8,7 @@ ghost use Rattle.store.specs.Outcome.{outcome};
 
 use facts::no_facts;
 use index::Index;
-use operations::{BuildFault, Built};
+use operations::BuildFault;
 use store::{Entry, clear_from, entries_start, question_count, set_used, used, wide};
 use terms::Limits;
 use walking::{Goal, Subject, walk};
@@ -36,17 +36,15 @@ fn walk_all(limits: Limits, store: &mut [u32], subject: Subject) -> Option<u32>
 }
 
 // Adds the finished diagram of what a subject means, or leaves every word as it came where there is no room for it.
-pub fn add(limits: Limits, store: &mut [u32], subject: Subject) -> Built
+pub fn add(limits: Limits, store: &mut [u32], subject: Subject) -> Result<u32, BuildFault>
     requires { spec.CanAdd limits store.old subject }
     ensures { outcome result store.new
         ≡ add_meaning limits store.old (subject_meaning store.old subject.entry) }
 {
     let entries = used(store);
-    match walk_all(limits, store, subject) {
-        Some(h) => Built::Handle(h),
-        None => {
-            restore(store, entries);
-            Built::Refused(BuildFault::NoRoom)
-        }
+    let placed = walk_all(limits, store, subject);
+    if placed.is_none() {
+        restore(store, entries);
     }
+    placed.ok_or(BuildFault::NoRoom)
 }

@@ -13,7 +13,7 @@ use Rattle.std.proofs.Common.{Option, Some, None}
 use Rattle.diagram.specs.Insert.{add_entry, place_entry, then_place, insert}
 use Rattle.diagram.specs.Questions.{finished_in}
 use Rattle.logger.specs.SmallerLimits.{Smaller}
-use Rattle.operations.specs.declared.answer.Built.TheVariants.{Handle}
+use Rattle.std.specs.Prelude.{Ok}
 use Rattle.operations.specs.Handles.{Call, build, negate, join, choose, answer_to, rule_of_call}
 use Rattle.operations.specs.Operations.{unless_full, added, add_meaning}
 use Rattle.store.specs.declared.entries.Entry.{Entry}
@@ -102,16 +102,16 @@ module _ {limits larger : Limits} (small : Smaller limits larger) where
       then_larger (after_yes limits k n) (after_yes larger k n) h (insert_larger y s) (λ hy w.
       then_larger (after_no limits k hy) (after_no larger k hy) h (insert_larger n w) (λ hn w'. place_larger w' (entry_of k hy hn) h))
 
-  added_at : (s : List ℕ) (t : Tree) (g : ℕ) → (insert limits s t).answer ≡ Some g → added larger s t ≡ outcome (Handle g) (insert limits s t).words
+  added_at : (s : List ℕ) (t : Tree) (g : ℕ) → (insert limits s t).answer ≡ Some g → added larger s t ≡ outcome (Ok g) (insert limits s t).words
   unfolding added
   added_at s t g e = ap (unless_full s) (insert_larger t s g e) ∙ rw e
 
-  added_larger : (s : List ℕ) (t : Tree) (h : ℕ) → (added limits s t).answer ≡ Handle h → added larger s t ≡ added limits s t
-  added_larger s t h = added_cases limits s t (λ o. o.answer ≡ Handle h → added larger s t ≡ o) (λ g e _. added_at s t g e) (λ e. absurd (not_both e refl))
+  added_larger : (s : List ℕ) (t : Tree) (h : ℕ) → (added limits s t).answer ≡ Ok h → added larger s t ≡ added limits s t
+  added_larger s t h = added_cases limits s t (λ o. o.answer ≡ Ok h → added larger s t ≡ o) (λ g e _. added_at s t g e) (λ e. absurd (not_both e refl))
 
   -- ---- the call
-  pub smaller_calls : (s : List ℕ) (c : Call) (h : ℕ) → (answer_to limits s c).answer ≡ Handle h → answer_to larger s c ≡ answer_to limits s c
-  smaller_calls s c h = call_cases limits s (λ o. o.answer ≡ Handle h → answer_to larger s c ≡ o)
+  pub smaller_calls : (s : List ℕ) (c : Call) (h : ℕ) → (answer_to limits s c).answer ≡ Ok h → answer_to larger s c ≡ answer_to limits s c
+  smaller_calls s c h = call_cases limits s (λ o. o.answer ≡ Ok h → answer_to larger s c ≡ o)
       (λ f _ e. absurd (not_both e refl)) c
       (λ is t e.
       let rule = rule_of_call [] s c in
