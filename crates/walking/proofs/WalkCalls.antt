@@ -80,7 +80,7 @@ module _ {limits : Limits} {s : List ℕ} {subject : Subject} {f : Facts} {k lef
   pub can_yes : CanWalk limits s subject g (k + 1) (left - 1)
   can_yes = can_next x.can x.more s g x.can.walkable (omega arith) refl (holds_more (omega arith) (holds_yes x.can.holds q small x.decides_open x.yes_is))
 
-  pub can_answer_no : Small most_count q × (f.noes < most_noes)
+  pub can_answer_no : Small most_count q × (f.noes.count < most_noes)
   can_answer_no = (small, omega (arith, x.can.holds.few, x.can.from_one, listed x.can x.more, x.can.walkable.list_short))
 
   -- ---- after the yes part
