@@ -35,7 +35,7 @@ use Rattle.store.proofs.SoundFacts.{sound_says}
 use Rattle.store.proofs.Tests.{passes}
 
 -- ---- the choice of three handles
-pub choice_adds : {limits : Limits} {s : List ℕ} {a b c : ℕ} → CanChoose limits s a b c → (source : List ℕ) → CanAdd limits s source (Choice a b c)
+pub choice_adds : {limits : Limits} {s : List ℕ} {a b c : ℕ} → CanChoose limits s a b c → → CanAdd limits s (Choice a b c)
 choice_adds can source = record { fit = can.fit; is_sound = can.is_sound; given = record { taken = (can.first_in, can.second_in, can.third_in) } }
 
 -- ---- not and and, as choices

@@ -1,15 +1,15 @@
 -- The decision is right: a settled question is true wherever the facts hold; one whose yes leaves the state free is open, as the choices that
 -- fit the two states show; and of any other no choice that fits makes it true.
 use mathlib.Core.Path.{◌≡◌, refl, sym, ◌∙◌}
-use mathlib.Core.Bool.{true, false, cond, true≢false}
+use mathlib.Core.Bool.{true, false, true≢false}
 use mathlib.Core.List.{List, ◌∷◌}
 use Rattle.terms.specs.declared.term.Equation.{Equation}
 use Rattle.terms.specs.Meaning.{Valuation, truth}
-use Rattle.facts.specs.declared.decision.Decision.TheVariants.{Always, Never, Open}
 use Rattle.facts.specs.declared.fact.Fact.{Fact}
 use Rattle.facts.specs.Facts.{fact, Fits, Forces}
 use Rattle.facts.specs.State.{State, settled, free, no_to, yes_to, state_of, decide, some_sheet}
 use Rattle.terms.proofs.Cases.{by_test}
+use Rattle.facts.proofs.PlanCases.{decide_cases}
 use Rattle.facts.proofs.StateExact.{state_exact}
 use Rattle.facts.proofs.StateFree.{fit_free, free_fit, settled_fit, state_of_zero}
 
@@ -26,14 +26,12 @@ no_to_free s q f n = rw n f
 
 -- The decision is right in all three answers, where some choice of counts fits the facts.
 pub decided : (xs : List Fact) (q : Equation) → free (state_of xs) ≡ true → Forces xs q (decide (state_of xs) q)
-unfolding decide
 decided xs q t =
     let s = state_of xs in
-    by_test (λ b. Forces xs q (cond b Always (cond (free (yes_to s q)) Open Never))) (settled s.classes q)
+    decide_cases (Forces xs q) s q
     (λ y v h. settled_fit ((state_exact xs v).1 h) q y)
-    (λ n. by_test (λ b. Forces xs q (cond b Open Never)) (free (yes_to s q))
-    (λ f.
+    (λ n f.
     let w = free_fits (fact q true ∷ xs) f in
     let u = free_fits (fact q false ∷ xs) (no_to_free s q t n) in
     ((some_sheet (yes_to s q), w.1, w.0), (some_sheet (no_to s q), u.1, u.0)))
-    (λ m v h. by_test (λ b. b ≡ false) (truth v q) (λ i. absurd (true≢false (sym (fits_free (fact q true ∷ xs) v (i, h)) ∙ m))) (λ _. refl)))
+    (λ n m v h. by_test (λ b. b ≡ false) (truth v q) (λ i. absurd (true≢false (sym (fits_free (fact q true ∷ xs) v (i, h)) ∙ m))) (λ _. refl))

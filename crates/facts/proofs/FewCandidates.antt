@@ -10,7 +10,7 @@ use native.Mathlib.Decide.{ℕ_discrete}
 use lib.Dec.{eqb}
 use lib.ListN.{length}
 use Rattle.terms.specs.declared.term.Equation.{Equation}
-use Rattle.facts.specs.State.{ZeroKept, Classes, State, left_side, right_side, settled, none_settled, free, joined, planned, some_sheet}
+use Rattle.facts.specs.State.{ZeroKept, Classes, State, left_side, right_side, settled, none_settled, free, joined, join, planned, some_sheet}
 use Rattle.facts.specs.Least.{can_count, least_count}
 use Rattle.terms.proofs.Cases.{by_eq, by_test}
 use Rattle.facts.proofs.PlanCases.{plan_cases, settled_cases}
@@ -82,15 +82,15 @@ module _ (c : Classes) (t p d : ℕ) (q : Equation) where
   apart : settled c q ≡ false → left_class ≡ right_class → left_side c q ≢ right_side c q
   apart = settled_cases (λ b. b ≡ false → left_class ≡ right_class → left_side c q ≢ right_side c q) c q (λ _ _ f. absurd (true≢false f)) (λ n _. n)
 
-  one_distance : settled c q ≡ false → settled (joined c t p d) q ≡ true → distance c q ≡ d
+  one_distance : settled c q ≡ false → settled (joined c (join t p d)) q ≡ true → distance c q ≡ d
   unfolding distance
-  one_distance m = settled_cases (λ b. b ≡ true → distance c q ≡ d) (joined c t p d) q
+  one_distance m = settled_cases (λ b. b ≡ true → distance c q ≡ d) (joined c (join t p d)) q
       (λ h g _. by_eq (λ x. AtOneDistance x (eqb right_class p)) left_class p
       (λ e. by_eq (AtOneDistance true) right_class p (λ k _ g. absurd (apart m (e ∙ sym k) (omega arith))) (λ _ _ g. omega arith))
       (λ _. by_eq (AtOneDistance false) right_class p (λ _ _ g. omega arith) (λ _ h g. absurd (apart m h g))) h g)
       (λ _ f. absurd (false≢true f))
 
-none_shut_out : (c : Classes) (t p d : ℕ) (qs : List Equation) → none_settled c qs ≡ true → has (distances c qs) d ≡ false → none_settled (joined c t p d) qs ≡ true
+none_shut_out : (c : Classes) (t p d : ℕ) (qs : List Equation) → none_settled c qs ≡ true → has (distances c qs) d ≡ false → none_settled (joined c (join t p d)) qs ≡ true
 unfolding has distances
 none_shut_out c t p d [] = λ _ _. refl
 none_shut_out c t p d (q ∷ qs) =
@@ -103,7 +103,7 @@ none_shut_out c t p d (q ∷ qs) =
     (λ _. none_shut_out c t p d qs h g)))
   where
     j : Classes
-    j = joined c t p d
+    j = joined c (join t p d)
 
 -- ---- the candidates
 module _ (s : State) (z : ZeroKept s.classes) (t : free s ≡ true) (f : ℕ) where
@@ -113,7 +113,7 @@ module _ (s : State) (z : ZeroKept s.classes) (t : free s ≡ true) (f : ℕ) wh
       let c = s.classes in
       let a = c.offset f + 0 in
       let b = c.offset 0 + (c.offset f + d) in
-      let joins : (k : ℕ) → k ≡ d → none_settled (joined c (c.class 0) (c.class f) k) s.noes ≡ true =
+      let joins : (k : ℕ) → k ≡ d → none_settled (joined c (join (c.class 0) (c.class f) k)) s.noes ≡ true =
       λ k e. rw e (none_shut_out c (c.class 0) (c.class f) d s.noes t h) in
       plan_cases (λ x. free (planned s x) ≡ true) (c.class f) (c.class 0) a b
       (λ _ _. t)

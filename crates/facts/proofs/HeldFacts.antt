@@ -1,15 +1,14 @@
 -- A record that holds facts is within the bounds that the code asks for: an offset is at most the count in any fitting sheet, so in the least
 -- one, and classes and questions answered no come of the facts' questions.
-use Prim.Native.Nat.{ℕ, zero, suc, ◌+◌, ◌-◌, ◌*◌, ◌≤◌, ◌<◌}
+use Prim.Native.Nat.{ℕ, suc, ◌+◌, ◌-◌, ◌*◌, ◌≤◌, ◌<◌}
 use mathlib.Core.Path.{◌≡◌, refl, sym, ap, subst, ◌∙◌}
 use mathlib.Core.Bool.{Bool, true, false, cond, true≢false}
 use mathlib.Core.List.{List, [], ◌∷◌}
 use native.Mathlib.Omega.{arith}
-use native.Mathlib.Decide.{ℕ_discrete}
 use lib.ListN.{length}
 use Rattle.terms.specs.declared.term.Equation.{Equation}
-use Rattle.facts.specs.declared.decision.Decision.{Decision}
-use Rattle.facts.specs.declared.decision.Decision.TheVariants.{Always, Never, Open}
+use Rattle.facts.specs.declared.decision.Decision.TheVariants.{Open}
+use Rattle.facts.specs.declared.decision.Join.{Join}
 use Rattle.facts.specs.declared.decision.Plan.TheVariants.{Clash}
 use Rattle.facts.specs.declared.record.Facts.{Facts}
 use Rattle.facts.specs.declared.asking.Asked.{Asked}
@@ -17,14 +16,14 @@ use Rattle.facts.specs.declared.fact.Fact.{Fact}
 use Rattle.facts.specs.Facts.{fact, Fits, Forces}
 use Rattle.facts.specs.Least.{IsLeast, Near, All, RestsOn, least_count, fixed, least_sheet}
 use Rattle.facts.specs.Needs.{most_offset, Within, Askable}
-use Rattle.facts.specs.Record.{state, last_field, most_noes, question_at, noes_in, Small, AllSmall, Holds, AskedOf, asked_decision}
+use Rattle.facts.specs.Record.{state, last_field, most_noes, Small, AllSmall, Holds, AskedOf, asked_decision}
 use Rattle.terms.specs.Limits.{most_count}
-use Rattle.facts.specs.State.{State, Fit, settled, free, left_side, right_side, joined, planned, certain, no_to, yes_to, work_in, start, state_of, decide}
-use Rattle.terms.proofs.Cases.{by_eq, by_test}
+use Rattle.facts.specs.State.{State, Fit, settled, free, left_side, right_side, joined, join, planned, certain, no_to, yes_to, work_in, start, state_of, decide}
+use Rattle.terms.proofs.Cases.{by_eq}
 use Rattle.facts.proofs.Decided.{decided, no_to_free}
 use Rattle.facts.proofs.LeastBound.{least_bound}
 use Rattle.facts.proofs.LeastSheet.{fixed_at, fixed_down, least_sheet_fits, least_sheet_least}
-use Rattle.facts.proofs.PlanCases.{plan_cases}
+use Rattle.facts.proofs.PlanCases.{plan_cases, decide_cases}
 use Rattle.facts.proofs.StateExact.{state_exact}
 use Rattle.facts.proofs.StateFree.{state_of_zero}
 use Rattle.facts.proofs.WorkedRecord.{noes_length, noes_kept, clash_not_free}
@@ -40,9 +39,9 @@ certain_small = record { left_in = omega arith; right_in = omega arith; left_ste
 no_tame : (s : State) (q : Equation) → Small most_count q → Tame s → Tame (no_to s q)
 no_tame s q small t = record { classes_tame = t.classes_tame; noes_tame = (small, t.noes_tame) }
 
-joined_tame : (s : State) (into from by : ℕ) → into ≤ last_field → Tame s → Tame (record { classes = joined s.classes into from by; noes = s.noes })
-joined_tame s into from by h t = record {
-  classes_tame = λ k l. by_eq (λ b. cond b into (s.classes.class k) ≤ last_field) (s.classes.class k) from (λ _. h) (λ _. t.classes_tame k l);
+joined_tame : (s : State) (j : Join) → j.into ≤ last_field → Tame s → Tame (record { classes = joined s.classes j; noes = s.noes })
+joined_tame s j h t = record {
+  classes_tame = λ k l. by_eq (λ b. cond b j.into (s.classes.class k) ≤ last_field) (s.classes.class k) j.from (λ _. h) (λ _. t.classes_tame k l);
   noes_tame = t.noes_tame;
 }
 
@@ -58,9 +57,9 @@ work_in_tame s q true small t =
     let right = t.classes_tame q.right.field.0 small.right_in in
     plan_cases (λ x. Tame (planned s x)) p r a c
     (λ _ _. t) (λ _ _. clash)
-    (λ _ _ _. joined_tame s r p 0 right t) (λ _ _ _. clash)
-    (λ _ _ _. joined_tame s p r (a - c) left t) (λ _ _ _. clash)
-    (λ _ _ _. joined_tame s r p (c - a) right t)
+    (λ _ _ _. joined_tame s (join r p 0) right t) (λ _ _ _. clash)
+    (λ _ _ _. joined_tame s (join p r (a - c)) left t) (λ _ _ _. clash)
+    (λ _ _ _. joined_tame s (join r p (c - a)) right t)
 
 pub small_more : {m n : ℕ} {q : Equation} → m ≤ n → Small m q → Small n q
 small_more h s = record { left_in = s.left_in; right_in = s.right_in; left_steps = omega (arith, s.left_steps); right_steps = omega (arith, s.right_steps) }
@@ -130,22 +129,6 @@ worked_yes {f = f} {g = g} h q small t e = record {
   few = omega (arith, h.few, noes_kept f g (ap (λ (s : State). s.noes) e ∙ yes_noes (state f) q t));
 }
 
-abbrev NotOpen : Decision → Type 0
-NotOpen Always = Unit {0}
-NotOpen Never = Unit {0}
-NotOpen Open = ⊥
-
-not_open : (d : Decision) → NotOpen d → d ≡ Open → ⊥
-not_open d n e = rw e at n
-
-noes_small_in : (left right : List ℕ) (n k : ℕ) → All (Small most_count) (noes_in left right n) → k < n → Small most_count (question_at left right k)
-unfolding noes_in
-noes_small_in left right zero k a h = absurd (omega arith)
-noes_small_in left right (suc n) k a h = elim (ℕ_discrete k n) [
-  | yes e ↦ subst (λ j. Small most_count (question_at left right j)) (sym e) a.0
-  | no d ↦ noes_small_in left right n k a.1 (omega arith)
-]
-
 module _ {most_no most : ℕ} {f : Facts} (h : Holds most_no most f) where
   tame : most ≤ most_count → Tame (state f)
   tame m = subst Tame (sym h.is) (state_of_tame most h.facts m h.small)
@@ -155,7 +138,7 @@ module _ {most_no most : ℕ} {f : Facts} (h : Holds most_no most f) where
     class_in = (tame m).classes_tame;
     offset_in = λ k i. rw (ap (λ (s : State). s.classes.offset k) h.is) (omega (arith, offset_bound most h.facts h.small (sym (ap free h.is) ∙ h.fitted) k i));
     noes_few = omega (arith, h.few);
-    noes_small = λ k i. noes_small_in f.left f.right f.noes k (tame m).noes_tame i;
+    noes_small = (tame m).noes_tame;
   }
 
   pub holds_ready : most_no ≤ most_noes → most ≤ most_count → (q : Equation) → Small most_count q → Askable f q
@@ -168,10 +151,8 @@ module _ {most_no most : ℕ} {f : Facts} (h : Holds most_no most f) where
 
   module _ (q : Equation) (small : Small most q) (o : decide (state f) q ≡ Open) where
     open_tests : (settled (state f).classes q ≡ false) × (free (yes_to (state f) q) ≡ true)
-    unfolding decide
-    open_tests = by_test (λ b. cond b Always (cond (free (yes_to (state f) q)) Open Never) ≡ Open → (b ≡ false) × (free (yes_to (state f) q) ≡ true)) (settled (state f).classes q)
-        (λ _ e. absurd (not_open Always tt e))
-        (λ _. by_test (λ b. cond b Open Never ≡ Open → (false ≡ false) × (b ≡ true)) (free (yes_to (state f) q)) (λ _ _. (refl, refl)) (λ _ e. absurd (not_open Never tt e))) o
+    open_tests = decide_cases (λ d. d ≡ Open → (settled (state f).classes q ≡ false) × (free (yes_to (state f) q) ≡ true)) (state f) q
+        (λ _ e. cc) (λ n t _. (n, t)) (λ _ _ e. cc) o
 
     -- an open answer leaves a record that some choice of counts fits
     pub holds_yes : {g : Facts} → state g ≡ yes_to (state f) q → Holds most_no most g
@@ -184,7 +165,7 @@ module _ {most_no most : ℕ} {f : Facts} (h : Holds most_no most f) where
       is = e ∙ ap (λ s. no_to s q) h.is;
       fitted = ap free e ∙ no_to_free (state f) q h.fitted open_tests.0;
       few =
-          let n : g.noes ≡ suc f.noes = sym (noes_length g.left g.right g.noes) ∙ ap (λ (s : State). length s.noes) e ∙ ap suc (noes_length f.left f.right f.noes) in
+          let n : g.noes.count ≡ suc f.noes.count = sym (noes_length g.noes.pairs g.noes.count) ∙ ap (λ (s : State). length s.noes) e ∙ ap suc (noes_length f.noes.pairs f.noes.count) in
           omega (arith, h.few);
     }
 
@@ -196,6 +177,6 @@ holds_none most {f} e = record {
   is = e;
   fitted = ap free e;
   few =
-      let n : f.noes ≡ 0 = sym (noes_length f.left f.right f.noes) ∙ ap (λ (s : State). length s.noes) e in
+      let n : f.noes.count ≡ 0 = sym (noes_length f.noes.pairs f.noes.count) ∙ ap (λ (s : State). length s.noes) e in
       omega arith;
 }

@@ -6,7 +6,6 @@ use native.Mathlib.Omega.{arith}
 use native.Mathlib.Decide.{ℕ_discrete}
 use lib.ListN.{length, get_or, set, length-set}
 use lib.Seq.{get_or-set_same, get_or-set_other}
-use Rattle.facts.specs.declared.least.Fixed.{Fixed}
 use Rattle.facts.specs.declared.record.Facts.{Facts}
 use Rattle.facts.specs.declared.fact.Fact.{Fact}
 use Rattle.facts.specs.Least.{counts, least_count, fixed, least_sheet}
@@ -76,9 +75,9 @@ module _ {start : Facts} {n : ℕ} (has : HasLeast start n) where
           least_can = λ y t. let w = count_fits (state f) zero_kept i y t in omega (arith, least_count_le (state f) zero_kept b.holds.fitted i w.0 w.1, w.2);
         }
 
-    pub fixed_next : {r : Fixed} → FixedAt f i r → FixedBelow start (i + 1) r.facts (set found i r.count)
+    pub fixed_next : {count : ℕ} {g : Facts} → FixedAt f i count g → FixedBelow start (i + 1) g (set found i count)
     unfolding fixed
-    fixed_next {r} a = record {
+    fixed_next {count} {g} a = record {
       done = suc b.done;
       i_is = omega (arith, b.i_is);
       holds = worked_yes b.holds (counts i (least_count (state f) i)) (fixed_small) can_fix.can a.state_is;
@@ -90,11 +89,11 @@ module _ {start : Facts} {n : ℕ} (has : HasLeast start n) where
         fixed_small : Small most_count (counts i (least_count (state f) i))
         fixed_small = fix_small (omega (arith, has.few_fields)) can_fix.small_count
 
-        go : (j : ℕ) → j < suc b.done → Dec (j ≡ b.done) → get_or (set found i r.count) (suc j) 0 ≡ least_count (fixed j (state start)) (suc j)
+        go : (j : ℕ) → j < suc b.done → Dec (j ≡ b.done) → get_or (set found i count) (suc j) 0 ≡ least_count (fixed j (state start)) (suc j)
         go j h (yes e) =
             let at : suc j ≡ i = omega (arith, b.i_is) in
-            rw (at, get_or-set_same found i r.count 0 (omega (arith, b.size, has.few_fields)), e) (a.count_is ∙ ap (λ s. least_count s i) b.is)
-        go j h (no d) = get_or-set_other found i (suc j) r.count 0 (λ e. d (omega (arith, b.i_is))) ∙ b.count_at j (omega arith)
+            rw (at, get_or-set_same found i count 0 (omega (arith, b.size, has.few_fields)), e) (a.count_is ∙ ap (λ s. least_count s i) b.is)
+        go j h (no d) = get_or-set_other found i (suc j) count 0 (λ e. d (omega (arith, b.i_is))) ∙ b.count_at j (omega arith)
 
   pub all_fixed : {i : ℕ} {f : Facts} {found : List ℕ} → FixedBelow start i f found → n < i → i ≤ n + 1 → LeastCounts start n (record { counts = found })
   all_fixed {i} {f} {found} b h l = record { count_at = go }

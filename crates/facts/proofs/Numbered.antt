@@ -1,56 +1,29 @@
--- The record after its first i fields have been given their own numbers as classes; after all of them it stands for no facts.
-use Prim.Native.Nat.{ℕ, zero, suc, ◌+◌, ◌≤◌, ◌<◌}
-use mathlib.Core.Path.{◌≡◌, refl, ◌∙◌, fun_ext}
-use mathlib.Core.List.{List, [], ◌∷◌}
+-- A list that has each field's own place at its number stands for no facts.
+use Prim.Native.Nat.{ℕ}
+use mathlib.Core.Path.{◌≡◌, ap, fun_ext}
+use mathlib.Core.List.{List, []}
 use native.Mathlib.Omega.{arith}
-use native.Mathlib.Decide.{dec_le, ℕ_discrete}
-use lib.ListN.{length, get_or, set, replicate, length-set}
-use lib.Seq.{get_or-set_same, get_or-set_other}
-use Rattle.terms.proofs.OneValue.{all_alike}
-use Rattle.facts.specs.declared.record.Facts.{Facts}
-use Rattle.facts.specs.Record.{state, noes_in, field_places}
+use native.Mathlib.Decide.{dec_le}
+use denote.Param.Members.{Mut}
+use lib.ListN.{get_or}
+use Rattle.std.specs.Fn.{Called}
+use Rattle.std.specs.Array.{IsFromFnResult}
+use Rattle.std.proofs.lemmas.List.{get_or_past}
+use Rattle.facts.specs.declared.place.Place.{Place}
+use Rattle.facts.specs.declared.noes.Noes.{Noes}
+use Rattle.facts.specs.Record.{questions_in, state, field_places, own_place}
 use Rattle.facts.specs.State.{start}
 
-pub record Numbered (i : ℕ) (f : Facts) : Type 0 where
-  pub up_to : i ≤ field_places
-  pub size : length f.class ≡ field_places
-  pub own : (k : ℕ) → k < i → get_or f.class k k ≡ k
-  pub offsets : f.offset ≡ replicate field_places 0
-  pub noes_none : f.noes ≡ 0
-
--- one field more
-pub number_next : {i : ℕ} {f : Facts} → Numbered i f → i < field_places
-    → Numbered (i + 1) (record { class = set f.class i i; offset = f.offset; left = f.left; right = f.right; noes = f.noes })
-number_next {i} {f} n h = record {
-  up_to = omega arith;
-  size = simp length-set n.size;
-  own = λ k l. go k l (ℕ_discrete k i);
-  offsets = n.offsets;
-  noes_none = n.noes_none;
+pub numbered_start : {F : Type 0} {g : Mut F (ℕ × Unit {0}) Place} {f : F} {places : List Place} (noes : Noes) → IsFromFnResult g f places field_places
+    → ((p q : F) (i : ℕ) (x : Place) → Called g p (i, tt) x q → x ≡ own_place i)
+    → questions_in noes ≡ [] → state (record { places = places; noes = noes }) ≡ start
+numbered_start {places = places} noes n each none = λ j. record {
+  classes = record { class = fun_ext (λ k. ap (λ (p : Place). p.class) (own k)) j; offset = fun_ext (λ k. ap (λ (p : Place). p.offset) (own k)) j };
+  noes = none j;
 }
   where
-    go : (k : ℕ) → k < i + 1 → Dec (k ≡ i) → get_or (set f.class i i) k k ≡ k
-    go k l (yes e) = rw e (get_or-set_same f.class i i i (omega (arith, n.size)))
-    go k l (no d) = get_or-set_other f.class i k i k d ∙ n.own k (omega arith)
-
--- beyond a list get_or gives its default
-pub get_or_beyond : (xs : List ℕ) (k d : ℕ) → length xs ≤ k → get_or xs k d ≡ d
-get_or_beyond [] k d h = refl
-get_or_beyond (x ∷ xs) zero d h = absurd (omega arith)
-get_or_beyond (x ∷ xs) (suc k) d h = get_or_beyond xs k d (omega arith)
-
-pub numbered_start : {i : ℕ} {f : Facts} → Numbered i f → field_places ≤ i → state f ≡ start
-unfolding noes_in
-numbered_start {i} {f} n h = λ j. record { classes = record { class = fun_ext class j; offset = fun_ext offset j }; noes = noes j }
-  where
-    class : (k : ℕ) → get_or f.class k k ≡ k
-    class k = elim (dec_le i k) [
-      | yes l ↦ get_or_beyond f.class k k (omega (arith, n.size, n.up_to))
-      | no l ↦ n.own k (omega arith)
+    own : (k : ℕ) → get_or places k (own_place k) ≡ own_place k
+    own k = elim (dec_le field_places k) [
+      | yes l ↦ get_or_past places k (own_place k) (omega (arith, n.long))
+      | no l ↦ let at = n.at k (own_place k) (omega arith) in each at.0 at.1 k _ at.2
     ]
-
-    offset : (k : ℕ) → get_or f.offset k 0 ≡ 0
-    offset k = rw n.offsets (all_alike {A = ℕ} 0 field_places k)
-
-    noes : noes_in f.left f.right f.noes ≡ []
-    noes = rw n.noes_none refl

@@ -12,7 +12,7 @@ use Rattle.terms.specs.Meaning.{Valuation, value, truth}
 use Rattle.terms.specs.Words.{field}
 use Rattle.facts.specs.declared.fact.Fact.{Fact}
 use Rattle.facts.specs.Facts.{Fits}
-use Rattle.facts.specs.State.{Classes, State, at, Classed, Fit, left_side, right_side, joined, certain, planned, no_to, yes_to, work_in, start, state_of}
+use Rattle.facts.specs.State.{Classes, State, at, Classed, Fit, left_side, right_side, joined, join, certain, planned, no_to, yes_to, work_in, start, state_of}
 use Rattle.terms.proofs.Cases.{by_eq}
 use Rattle.terms.proofs.SimplifyTruth.{count_zero}
 use Rattle.facts.proofs.PlanCases.{plan_cases}
@@ -42,14 +42,14 @@ unfolding with_base
 with_base_other b t x k n = simp (ne_eqb k t n)
 
 module _ (c : Classes) (p t d : ℕ) (b : ℕ → ℕ) (v : Valuation) where
-  join_classed : Classed c b v → b t ≡ b p + d → Classed (joined c p t d) b v
+  join_classed : Classed c b v → b t ≡ b p + d → Classed (joined c (join p t d)) b v
   join_classed k e = record {
     at_zero = k.at_zero;
     at_field = λ f. by_eq (λ x. at v f ≡ b (cond x p (c.class f)) + cond x (c.offset f + d) (c.offset f)) (c.class f) t
         (λ h. omega (arith, k.at_field f, ap b h)) (λ n. k.at_field f);
   }
 
-  unjoin_classed : t ≢ 0 → Classed (joined c p t d) b v → Classed c (with_base b t (b p + d)) v
+  unjoin_classed : t ≢ 0 → Classed (joined c (join p t d)) b v → Classed c (with_base b t (b p + d)) v
   unfolding with_base
   unjoin_classed z k = record {
     at_zero = with_base_other b t (b p + d) 0 (λ e. z (sym e)) ∙ k.at_zero;
@@ -59,7 +59,7 @@ module _ (c : Classes) (p t d : ℕ) (b : ℕ → ℕ) (v : Valuation) where
 
 module _ (s : State) (p t d : ℕ) (v : Valuation) where
   abbrev joined_state : State
-  joined_state = record { classes = joined s.classes p t d; noes = s.noes }
+  joined_state = record { classes = joined s.classes (join p t d); noes = s.noes }
 
   join_in : (k : Fit s v) → k.base t ≡ k.base p + d → Fit joined_state v
   join_in k e = record { base = k.base; classed = join_classed s.classes p t d k.base v k.classed e; noes_false = k.noes_false }

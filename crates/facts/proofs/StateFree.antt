@@ -12,7 +12,7 @@ use lib.Dec.{eqb}
 use Rattle.terms.specs.declared.term.Equation.{Equation}
 use Rattle.terms.specs.Meaning.{Valuation, count, truth}
 use Rattle.facts.specs.declared.fact.Fact.{Fact}
-use Rattle.facts.specs.State.{ZeroKept, Classes, State, AllFalse, Classed, Fit, left_side, right_side, settled, none_settled, free, joined, planned, work_in, state_of, spacing, some_sheet}
+use Rattle.facts.specs.State.{ZeroKept, Classes, State, AllFalse, Classed, Fit, left_side, right_side, settled, none_settled, free, joined, join, planned, work_in, state_of, spacing, some_sheet}
 use Rattle.terms.proofs.Cases.{by_eq, by_test}
 use Rattle.facts.proofs.PlanCases.{plan_cases, settled_cases}
 use Rattle.facts.proofs.StateExact.{on_bases, from_bases}
@@ -81,7 +81,7 @@ free_fit s z t =
     record { base = λ k. k * m; classed = spread_classed s.classes m z; noes_false = spread_all_false s.classes m z s.noes (omega arith) t }
 
 -- ---- field 0 stays in class 0
-joined_zero : (c : Classes) (p t d : ℕ) → t ≢ 0 → ZeroKept c → ZeroKept (joined c p t d)
+joined_zero : (c : Classes) (p t d : ℕ) → t ≢ 0 → ZeroKept c → ZeroKept (joined c (join p t d))
 joined_zero c p t d n z =
     let other : eqb (c.class 0) t ≡ false = ne_eqb (c.class 0) t (λ e. n (sym e ∙ z.class_zero)) in
     record { class_zero = rw other z.class_zero; offset_zero = rw other z.offset_zero }

@@ -1,21 +1,22 @@
 -- What the code relies on, and no claim: what asking a record of facts, working answers in and the least sheet require, and what their parts promise.
-use Rattle.std.specs.Prelude.{ℕ, suc, ◌+◌, ◌*◌, ◌^◌, ◌≤◌, ◌<◌, ◌≡◌, ◌≢◌, Bool, true, false, cond, List, eqb, length, get_or, set}
+use Rattle.std.specs.Prelude.{ℕ, ◌+◌, ◌*◌, ◌^◌, ◌≤◌, ◌<◌, ◌≡◌, ◌≢◌, Bool, true, false, cond, List, eqb, length}
 use Rattle.terms.specs.declared.term.Equation.{Equation}
 use Rattle.terms.specs.Limits.{most_count}
-use Rattle.facts.specs.declared.deciding.Place.{Place}
-use Rattle.facts.specs.declared.least.Fixed.{Fixed}
+use Rattle.terms.specs.declared.term.Term.{Term}
+use Rattle.facts.specs.declared.decision.Join.{Join}
+use Rattle.facts.specs.declared.place.Place.{Place}
 use Rattle.facts.specs.declared.record.Facts.{Facts}
 use Rattle.facts.specs.declared.fact.Fact.{Fact}
-use Rattle.facts.specs.Least.{counts, can_count, least_count}
-use Rattle.facts.specs.State.{free, yes_to}
-use Rattle.facts.specs.Record.{question_at, state, last_field, most_noes, Small, Holds}
+use Rattle.facts.specs.Least.{All, counts, can_count, least_count}
+use Rattle.facts.specs.State.{free, place, yes_to}
+use Rattle.facts.specs.Record.{classes_in, state, last_field, field_places, most_noes, Small, Holds}
 
 -- No offset is above the bound, and all classes and questions are on the record's fields.
 pub record Within (bound : ℕ) (f : Facts) : Type 0 where
-  pub class_in : (k : ℕ) → k ≤ last_field → get_or f.class k k ≤ last_field
-  pub offset_in : (k : ℕ) → k ≤ last_field → get_or f.offset k 0 ≤ bound
-  pub noes_few : f.noes ≤ most_noes
-  pub noes_small : (k : ℕ) → k < f.noes → Small most_count (question_at f.left f.right k)
+  pub class_in : (k : ℕ) → k ≤ last_field → (classes_in f.places).class k ≤ last_field
+  pub offset_in : (k : ℕ) → k ≤ last_field → (classes_in f.places).offset k ≤ bound
+  pub noes_few : f.noes.count ≤ most_noes
+  pub noes_small : All (Small most_count) (state f).noes
 
 -- no offset of a record that holds facts is above this
 abbrev pub most_offset : ℕ
@@ -35,7 +36,7 @@ pub record CanAnswerYes (f : Facts) (q : Equation) : Type 0 where
 -- what a question answered no requires
 pub record CanAnswerNo (f : Facts) (q : Equation) : Type 0 where
   pub small : Small most_count q
-  pub room : f.noes < most_noes
+  pub room : f.noes.count < most_noes
 
 -- what adding a fact requires, by its answer
 abbrev pub CanAnswer : Facts → Equation → Bool → Type 0
@@ -45,32 +46,25 @@ CanAnswer f q false = CanAnswerNo f q
 pub record CanAddFact (f : Facts) (x : Fact) : Type 0 where
   pub can : CanAnswer f x.question x.answer
 
--- the i-th field, and room to raise its offset
-pub record CanRaise (f : Facts) (i by : ℕ) : Type 0 where
-  pub in_arrays : i < suc last_field
-  pub raised_fits : get_or f.offset i 0 + by < 2 ^ 32
-
--- one field of a join, moved
-abbrev pub field_moved : Facts → ℕ → ℕ → ℕ → Facts
-field_moved f i into by =
-    record { class = set f.class i into; offset = set f.offset i (get_or f.offset i 0 + by); left = f.left; right = f.right; noes = f.noes }
-
 -- ---- deciding
--- a class for each field; the two terms of a question are of these fields, and their sides fit a word when so much is added
-pub record RaisedSides (class offset : List ℕ) (q : Equation) (by : ℕ) : Type 0 where
-  pub whole : length class ≡ suc last_field
-  pub left_in : q.left.field.0 ≤ last_field
-  pub right_in : q.right.field.0 ≤ last_field
-  pub left_fits : get_or offset q.left.field.0 0 + q.left.steps.0 + by < 2 ^ 32
-  pub right_fits : get_or offset q.right.field.0 0 + q.right.steps.0 + by < 2 ^ 32
+-- a term's field is on the list, and its place fits a word when so much is added
+pub record HasPlace (places : List Place) (t : Term) (by : ℕ) : Type 0 where
+  pub whole : length places ≡ field_places
+  pub field_in : t.field.0 ≤ last_field
+  pub fits : (place (classes_in places) t).offset + by < 2 ^ 32
 
-abbrev pub Sides : List ℕ → List ℕ → Equation → Type 0
-Sides class offset q = RaisedSides class offset q 0
+pub record HasPlaces (places : List Place) (q : Equation) (by : ℕ) : Type 0 where
+  pub left : HasPlace places q.left by
+  pub right : HasPlace places q.right by
 
--- r is the place of a term, once the class `from` is part of the class `into`, its base `by` above
-pub record PlaceJoined (class side into from by : ℕ) (r : Place) : Type 0 where
-  pub class_is : r.class ≡ cond (eqb class from) into class
-  pub side_is : r.side ≡ cond (eqb class from) (side + by) side
+-- a place once the class `from` is part of the class `into`, its base `by` above
+abbrev pub place_joined : Join → Place → Place
+place_joined j p = record { class = cond (eqb p.class j.from) j.into p.class; offset = cond (eqb p.class j.from) (p.offset + j.by) p.offset }
+
+-- a class on the record's fields can be joined to another, and every offset fits a word then
+pub record CanJoinPlaces (f : Facts) (j : Join) : Type 0 where
+  pub from_in : j.from ≤ last_field
+  pub raised_fits : (k : ℕ) → k ≤ last_field → (classes_in f.places).offset k + j.by < 2 ^ 32
 
 -- a class can be joined to another, its base no more than a side above
 pub record CanJoin (f : Facts) (by : ℕ) : Type 0 where
@@ -84,14 +78,15 @@ pub record CanFix (f : Facts) (x : ℕ) : Type 0 where
   pub within : Within most_offset f
   pub fitted : free (state f) ≡ true
   pub small_count : least_count (state f) x ≤ most_count
-  pub from_offset : get_or f.offset x 0 ≤ least_count (state f) x
+  pub from_offset : (state f).classes.offset x ≤ least_count (state f) x
   -- the least count can be, and no smaller one
   pub can : can_count (state f) x (least_count (state f) x) ≡ true
   pub least_can : (y : ℕ) → can_count (state f) x y ≡ true → least_count (state f) x ≤ y
 
-pub record FixedAt (f : Facts) (x : ℕ) (r : Fixed) : Type 0 where
-  pub count_is : r.count ≡ least_count (state f) x
-  pub state_is : state r.facts ≡ yes_to (state f) (counts x (least_count (state f) x))
+-- its count, and the facts with it
+pub record FixedAt (f : Facts) (x count : ℕ) (g : Facts) : Type 0 where
+  pub count_is : count ≡ least_count (state f) x
+  pub state_is : state g ≡ yes_to (state f) (counts x (least_count (state f) x))
 
 -- the record holds facts with few enough steps that no count of the least sheet is too large
 pub record HasLeast (f : Facts) (n : ℕ) : Type 0 where

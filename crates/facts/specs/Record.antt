@@ -6,27 +6,38 @@ use Rattle.terms.specs.Words.{equation, term_of}
 use Rattle.facts.specs.declared.decision.Decision.{Decision}
 use Rattle.facts.specs.declared.decision.Decision.TheVariants.{Always, Never, Open}
 use Rattle.facts.specs.declared.least.Sheet.{Sheet}
+use Rattle.facts.specs.declared.place.Place.{Place}
 use Rattle.facts.specs.declared.record.Facts.{Facts}
+use Rattle.facts.specs.declared.noes.Noes.{Noes}
+use Rattle.facts.specs.declared.noes.WordPair.{WordPair}
 use Rattle.facts.specs.declared.asking.Asked.{Asked}
 use Rattle.facts.specs.declared.asking.Asked.TheVariants as asked
 use Rattle.facts.specs.declared.fact.Fact.{Fact}
 use Rattle.facts.specs.Least.{least_sheet}
 use Rattle.facts.specs.State.{Classes, State, at, free, yes_to, state_of, decide}
 
--- Fields beyond the arrays are classes of their own.
-abbrev pub classes_in : List ℕ → List ℕ → Classes
-classes_in class offset = record { class = λ f. get_or class f f; offset = λ f. get_or offset f 0 }
+-- the place of a field that is a class of its own, at its base
+abbrev pub own_place : ℕ → Place
+own_place k = record { class = k; offset = 0 }
 
-abbrev pub question_at : List ℕ → List ℕ → ℕ → Equation
-question_at left right k = equation (term_of (get_or left k 0)) (term_of (get_or right k 0))
+-- Fields beyond the list are classes of their own.
+abbrev pub classes_in : List Place → Classes
+classes_in places = record { class = λ k. (get_or places k (own_place k)).class; offset = λ k. (get_or places k (own_place k)).offset }
 
--- the first so many questions, the newest first
-unfoldable pub noes_in : List ℕ → List ℕ → ℕ → List Equation
-noes_in left right zero = []
-noes_in left right (suc k) = question_at left right k ∷ noes_in left right k
+-- the question of two term words
+abbrev pub question_in : WordPair → Equation
+question_in w = equation (term_of w.left) (term_of w.right)
+
+-- so many questions of a list, the last first
+unfoldable pub noes_in : List WordPair → ℕ → List Equation
+noes_in pairs zero = []
+noes_in pairs (suc k) = question_in (get_or pairs k (record { left = 0; right = 0 })) ∷ noes_in pairs k
+
+abbrev pub questions_in : Noes → List Equation
+questions_in n = noes_in n.pairs n.count
 
 abbrev pub state : Facts → State
-state f = record { classes = classes_in f.class f.offset; noes = noes_in f.left f.right f.noes }
+state f = record { classes = classes_in f.places; noes = questions_in f.noes }
 
 -- the last field that a record has room for, the places for fields, field 0 among them, and how many questions answered no it has room for
 abbrev pub last_field : ℕ
@@ -55,7 +66,7 @@ pub record Holds (most_no most : ℕ) (f : Facts) : Type 0 where
   pub small : AllSmall most facts
   pub is : state f ≡ state_of facts
   pub fitted : free (state f) ≡ true
-  pub few : f.noes ≤ most_no
+  pub few : f.noes.count ≤ most_no
 
 -- what working a yes in promises: the record of a yes exactly if the state is free then
 abbrev pub WorkedYes : Facts → Equation → Option Facts → Type 0

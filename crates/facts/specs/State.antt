@@ -2,12 +2,16 @@
 -- class plus the offset. Class 0's base is 0, the others' are free. Beside them stand the questions answered no.
 use Rattle.std.specs.Prelude.{ℕ, ◌+◌, ◌-◌, ◌*◌, ◌≡◌, Bool, true, false, cond, not, ◌&&◌, List, [], ◌∷◌, eqb, leb}
 use Rattle.terms.specs.declared.term.Equation.{Equation}
+use Rattle.terms.specs.declared.term.Term.{Term}
 use Rattle.terms.specs.Meaning.{Valuation, count, truth}
 use Rattle.terms.specs.Words.{field, steps, term, equation}
 use Rattle.facts.specs.declared.decision.Decision.{Decision}
 use Rattle.facts.specs.declared.decision.Decision.TheVariants.{Always, Never, Open}
+use Rattle.facts.specs.declared.decision.Join.{Join}
 use Rattle.facts.specs.declared.decision.Plan.{Plan}
-use Rattle.facts.specs.declared.decision.Plan.TheVariants.{Keep, Clash, Join}
+use Rattle.facts.specs.declared.decision.Plan.TheVariants.{Keep, Clash}
+use Rattle.facts.specs.declared.decision.Plan.TheVariants as plans
+use Rattle.facts.specs.declared.place.Place.{Place}
 use Rattle.facts.specs.declared.fact.Fact.{Fact}
 
 pub record Classes : Type 0 where
@@ -43,6 +47,10 @@ pub record Fit (s : State) (v : Valuation) : Type 0 where
   pub classed : Classed s.classes base v
   pub noes_false : AllFalse v s.noes
 
+-- the place of a term: its field's, as many steps above
+abbrev pub place : Classes → Term → Place
+place c t = record { class = c.class t.field.0; offset = c.offset t.field.0 + t.steps.0 }
+
 -- the two sides of a question, above the bases of their fields' classes
 abbrev pub left_side : Classes → Equation → ℕ
 left_side c q = c.offset q.left.field.0 + q.left.steps.0
@@ -63,11 +71,14 @@ abbrev pub free : State → Bool
 free s = none_settled s.classes s.noes
 
 -- class `from` becomes part of class `into`, its base `by` above that one's
-abbrev pub joined : Classes → ℕ → ℕ → ℕ → Classes
-joined c into from by = record {
-  class = λ f. cond (eqb (c.class f) from) into (c.class f);
-  offset = λ f. cond (eqb (c.class f) from) (c.offset f + by) (c.offset f);
+abbrev pub joined : Classes → Join → Classes
+joined c j = record {
+  class = λ f. cond (eqb (c.class f) j.from) j.into (c.class f);
+  offset = λ f. cond (eqb (c.class f) j.from) (c.offset f + j.by) (c.offset f);
 }
+
+abbrev pub join : ℕ → ℕ → ℕ → Join
+join into from by = record { into = into; from = from; by = by }
 
 -- base p + a = base t + c, for the classes p and t: which class becomes part of which. A count below 0 is a clash, and so are two
 -- different offsets in one class.
@@ -75,8 +86,8 @@ unfoldable pub plan : ℕ → ℕ → ℕ → ℕ → Plan
 plan p t a c =
     cond (eqb p t) (cond (eqb a c) Keep Clash)
     (cond (leb c a)
-    (cond (eqb t 0) (cond (eqb a c) (Join t p 0) Clash) (Join p t (a - c)))
-    (cond (eqb p 0) Clash (Join t p (c - a))))
+    (cond (eqb t 0) (cond (eqb a c) (plans.Join (join t p 0)) Clash) (plans.Join (join p t (a - c))))
+    (cond (eqb p 0) Clash (plans.Join (join t p (c - a)))))
 
 abbrev pub plan_of : Classes → Equation → Plan
 plan_of c q = plan (c.class q.left.field.0) (c.class q.right.field.0) (left_side c q) (right_side c q)
@@ -92,7 +103,7 @@ certain = equation (term (field 0) (steps 0)) (term (field 0) (steps 0))
 abbrev pub planned : State → Plan → State
 planned s Keep = s
 planned s Clash = no_to s certain
-planned s (Join into from by) = record { classes = joined s.classes into from by; noes = s.noes }
+planned s (plans.Join j) = record { classes = joined s.classes j; noes = s.noes }
 
 -- the question answered yes
 abbrev pub yes_to : State → Equation → State

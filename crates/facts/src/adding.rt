@@ -33,7 +33,7 @@ pub fn added(f: Facts, x: Fact) -> Facts
 // The facts with a question answered no.
 pub fn no(f: Facts, q: Equation) -> Facts
     requires small { spec.Small most_count q }
-    requires noes_lt_most_noes { f.noes < spec.most_noes }
+    requires noes_lt_most_noes { f.noes.count < spec.most_noes }
     ensures { spec.state result ≡ state.no_to (spec.state f) q }
 {
     added(

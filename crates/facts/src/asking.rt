@@ -34,3 +34,15 @@ pub fn ask(f: Facts, q: Equation) -> Asked
         )),
     }
 }
+
+// The facts with a question answered yes, if some choice of counts fits them then.
+pub fn yes(f: Facts, q: Equation) -> Option<Facts>
+    requires { need.Askable f q }
+    ensures { spec.WorkedYes f q result }
+{
+    match ask(f, q) {
+        Asked::Always => Some(f),
+        Asked::Never => None,
+        Asked::Open(g) => Some(g),
+    }
+}

@@ -1,78 +1,41 @@
 // What the facts say of a question, without working an answer in: the questions answered no are looked at as a join would leave them.
-ghost use Rattle.std.specs.Prelude.{◌≡◌, ◌&&◌, ◌+◌, ◌<◌, ◌^◌, eqb};
+ghost use Rattle.std.specs.Prelude.{◌≡◌};
 ghost use Rattle.facts.specs.Needs as need;
 ghost use Rattle.facts.specs.Record as spec;
 ghost use Rattle.facts.specs.State as state;
 
-use crate::decision::{Decision, Plan, plan_yes};
-use crate::record::{Facts, Numbers};
-use terms::{Equation, term_of};
+use crate::decision::{Decision, Join, Plan, plan_yes};
+use crate::place::place_of;
+use crate::record::{Facts, Places};
+use terms::Equation;
 
-// The class of a term's field, and the term's value above the base of that class.
-#[derive(Clone, Copy)]
-struct Place {
-    class: u32,
-    side: u32,
-}
-
-// The place of a term, once the class `from` is part of the class `into`, its base `by` above.
-fn place_joined(class: u32, side: u32, into: u32, from: u32, by: u32) -> Place
-    requires { side + by < 2 ^ 32 }
-    ensures { need.PlaceJoined class side into from by result }
+// What an answer yes to a question asks of the places.
+pub fn plan_in(places: &Places, q: Equation) -> Plan
+    requires { need.HasPlaces places.now q 0 }
+    ensures { result ≡ state.plan_of (spec.classes_in places.now) q }
 {
-    if class == from {
-        return Place {
-            class: into,
-            side: side + by,
-        };
-    }
-    Place { class, side }
-}
-
-// Whether two terms have one value by their classes alone.
-fn meet(l: Place, r: Place) -> bool
-    ensures { result ≡ (eqb l.class r.class && eqb l.side r.side) }
-{
-    if l.class == r.class {
-        return l.side == r.side;
-    }
-    false
-}
-
-// What an answer yes to a question asks of the classes.
-pub fn plan_in<'a>(class: &'a Numbers, offset: &'a Numbers, q: Equation) -> Plan
-    requires { need.Sides class.now offset.now q }
-    ensures { result ≡ state.plan_of (spec.classes_in class.now offset.now) q }
-{
-    let x = q.left.field.0 as usize;
-    let y = q.right.field.0 as usize;
-    plan_yes(
-        class[x],
-        class[y],
-        offset[x] + q.left.steps.0,
-        offset[y] + q.right.steps.0,
-    )
+    plan_yes(place_of(places, q.left), place_of(places, q.right))
 }
 
 // Whether a join settles a question.
-fn join_settles<'a>(
-    class: &'a Numbers,
-    offset: &'a Numbers,
-    q: Equation,
-    into: u32,
-    from: u32,
-    by: u32,
-) -> bool
-    requires { need.RaisedSides class.now offset.now q by }
-    ensures { result
-        ≡ state.settled (state.joined (spec.classes_in class.now offset.now) into from by) q }
+fn settles(join: Join, places: &Places, q: Equation) -> bool
+    requires { need.HasPlaces places.now q join.by }
+    ensures { result ≡ state.settled (state.joined (spec.classes_in places.now) join) q }
 {
-    let x = q.left.field.0 as usize;
-    let y = q.right.field.0 as usize;
-    meet(
-        place_joined(class[x], offset[x] + q.left.steps.0, into, from, by),
-        place_joined(class[y], offset[y] + q.right.steps.0, into, from, by),
-    )
+    place_of(places, q.left).joined(join) == place_of(places, q.right).joined(join)
+}
+
+// Whether a join settles no question answered no.
+pub fn join_is_free(f: Facts, join: Join) -> bool
+    requires { need.CanJoin f join.by }
+    ensures { result ≡ state.free (state.planned (spec.state f) (Plan.Join join)) }
+{
+    for pair in f.noes.listed() {
+        if settles(join, &f.places, pair.question()) {
+            return false;
+        }
+    }
+    true
 }
 
 // What the facts say of a question.
@@ -80,33 +43,14 @@ pub fn decision_of(f: Facts, q: Equation) -> Decision
     requires { need.Askable f q }
     ensures { result ≡ state.decide (spec.state f) q }
 {
-    match plan_in(&f.class, &f.offset, q) {
+    match plan_in(&f.places, q) {
         Plan::Keep => Decision::Always,
         Plan::Clash => Decision::Never,
-        Plan::Join { into, from, by } => {
-            if join_is_free(f, into, from, by) {
+        Plan::Join(join) => {
+            if join_is_free(f, join) {
                 return Decision::Open;
             }
             Decision::Never
         }
     }
-}
-
-// Whether a join settles no question answered no.
-pub fn join_is_free(f: Facts, into: u32, from: u32, by: u32) -> bool
-    requires { need.CanJoin f by }
-    ensures { result ≡ state.free (state.planned (spec.state f) (Plan.Join into from by)) }
-{
-    let mut i: usize = 0;
-    while i < f.noes {
-        let q = Equation {
-            left: term_of(f.left[i]),
-            right: term_of(f.right[i]),
-        };
-        if join_settles(&f.class, &f.offset, q, into, from, by) {
-            return false;
-        }
-        i += 1;
-    }
-    true
 }

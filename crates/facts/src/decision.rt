@@ -3,6 +3,8 @@ ghost use Rattle.std.specs.Prelude.{◌≡◌};
 ghost use Rattle.facts.specs.Needs.{Down};
 ghost use Rattle.facts.specs.State as state;
 
+use crate::place::Place;
+
 // A question is true under every choice of counts that fits the facts, false under every such choice, or neither.
 #[derive(Clone, Copy)]
 pub enum Decision {
@@ -11,55 +13,65 @@ pub enum Decision {
     Open,
 }
 
-// What an answer yes asks for: nothing, the impossible, or that the class `from` becomes part of the class `into`, its base `by` above.
+// The class `from` becomes part of the class `into`, its base `by` above.
+#[derive(Clone, Copy)]
+pub struct Join {
+    pub into: u32,
+    pub from: u32,
+    pub by: u32,
+}
+
+// What an answer yes asks for: nothing, the impossible, or a join of two classes.
 #[derive(Clone, Copy)]
 pub enum Plan {
     Keep,
     Clash,
-    Join { into: u32, from: u32, by: u32 },
+    Join(Join),
 }
 
-// What it takes that base p + a = base t + c, for the bases of the classes p and t.
-pub fn plan_yes(p: u32, t: u32, a: u32, c: u32) -> Plan
-    ensures { result ≡ state.plan p t a c }
+// What it takes that two terms at these places have one value.
+#[tactic(auto, unfolding(crate::specs::State::plan))]
+pub fn plan_yes(l: Place, r: Place) -> Plan
+    ensures { result ≡ state.plan l.class r.class l.offset r.offset }
 {
-    if p == t {
-        if a == c {
+    if l.class == r.class {
+        if l.offset == r.offset {
             return Plan::Keep;
         }
         return Plan::Clash;
     }
-    if c <= a {
-        return down(p, t, a, c);
+    if r.offset <= l.offset {
+        return down(l, r);
     }
-    if p == 0 {
+    if l.class == 0 {
         return Plan::Clash;
     }
-    Plan::Join {
-        into: t,
-        from: p,
-        by: c - a,
-    }
+    Plan::Join(Join {
+        into: r.class,
+        from: l.class,
+        by: r.offset - l.offset,
+    })
 }
 
-// The same where p and t differ and c is at most a.
-fn down(p: u32, t: u32, a: u32, c: u32) -> Plan
-    requires { Down p t a c }
-    ensures { result ≡ state.plan p t a c }
+// The same where the classes differ and the right term is no further above its base.
+#[tactic(auto, unfolding(crate::specs::State::plan))]
+fn down(l: Place, r: Place) -> Plan
+    requires { Down l.class r.class l.offset r.offset }
+    ensures { result ≡ state.plan l.class r.class l.offset r.offset }
 {
-    if t == 0 {
-        if a == c {
-            return Plan::Join {
+    if r.class == 0 {
+        if l.offset == r.offset {
+            return Plan::Join(Join {
                 into: 0,
-                from: p,
+                from: l.class,
                 by: 0,
-            };
+            });
         }
         return Plan::Clash;
     }
-    Plan::Join {
-        into: p,
-        from: t,
-        by: a - c,
-    }
+    Plan::Join(Join {
+        into: l.class,
+        from: r.class,
+        by: l.offset - r.offset,
+    })
 }

@@ -4,16 +4,9 @@ ghost use Rattle.facts.specs.Least as least;
 ghost use Rattle.facts.specs.Needs as need;
 ghost use Rattle.facts.specs.Record as spec;
 
+use crate::asking::yes;
 use crate::record::{FIELDS, Facts, offset_of};
-use crate::working::yes;
 use terms::{Equation, Field, Steps, Term};
-
-// A field's count, and the facts with it.
-#[derive(Clone, Copy)]
-pub struct Fixed {
-    pub count: u32,
-    pub facts: Facts,
-}
 
 // The counts of a sheet, each at its field's number.
 #[derive(Clone, Copy)]
@@ -37,16 +30,18 @@ fn has_count(x: Field, count: u32) -> Equation
     }
 }
 
-// The least count that a field can have: no count is below the field's offset, and above it a candidate fails only where a question
-// answered no would be settled.
-fn fix_field(f: Facts, x: Field) -> Fixed
-    requires { need.CanFix f x.0 }
-    ensures { need.FixedAt f x.0 result }
+// The least count that a field can have, worked into the facts: no count is below the field's offset, and above it a candidate fails only
+// where a question answered no would be settled.
+fn fix_field(f: &mut Facts, x: Field) -> u32
+    requires { need.CanFix f.old x.0 }
+    ensures { need.FixedAt f.old x.0 result f.new }
 {
-    let mut count = offset_of(f, x);
+    let old = *f;
+    let mut count = offset_of(old, x);
     loop {
-        if let Some(facts) = yes(f, has_count(x, count)) {
-            return Fixed { count, facts };
+        if let Some(g) = yes(old, has_count(x, count)) {
+            *f = g;
+            return count;
         }
         count += 1;
     }
@@ -58,13 +53,8 @@ pub fn least_sheet(mut f: Facts, n: u32) -> Sheet
     ensures { spec.LeastCounts f n result }
 {
     let mut counts = [0u32; FIELDS];
-    let mut i: u32 = 1;
-    while i <= n {
-        let r = fix_field(f, Field(i));
-        f = r.facts;
-        let at = i as usize;
-        counts[at] = r.count;
-        i += 1;
+    for i in 1..=n {
+        counts[i as usize] = fix_field(&mut f, Field(i));
     }
     Sheet { counts }
 }

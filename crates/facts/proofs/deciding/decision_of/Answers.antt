@@ -1,11 +1,8 @@
 -- `decision_of` meets its contract: each plan has its decision.
 use borrow.Author.Rules.{rules}
 use Rattle.facts.proofs.WorkedRecord.{can_join}
-use Rattle.facts.proofs.DecideWays.{ready_sides, decides_keep, decides_clash, decides_open, decides_never}
+use Rattle.facts.proofs.DecideWays.{decides_keep, decides_clash, decides_open, decides_never}
 use Rattle.facts.proofs.deciding.decision_of.Goals as goal
-
-pub plan_in-requires : goal.plan_in-requires
-plan_in-requires c = search (rules, ready_sides)
 
 pub join_is_free-requires : goal.join_is_free-requires
 join_is_free-requires c = search (rules, can_join)

@@ -1,20 +1,15 @@
 use borrow.Author.Rules.{rules}
-use Rattle.facts.proofs.RecordWays.{passed_none, passed_next, all_passed, settled_found}
-use Rattle.facts.proofs.DecideWays.{raised_sides}
+use Rattle.facts.proofs.NoesWays.{passed_none, raised_places, settled_found, passed_next}
 use Rattle.facts.proofs.deciding.join_is_free.Goals as goal
 
-pub loop-i-init : goal.loop-i-init
-loop-i-init c = search (rules, passed_none)
+pub loop-pair-init : goal.loop-pair-init
+loop-pair-init c = passed_none _ _
 
-pub join_settles-requires : goal.join_settles-requires
-join_settles-requires c = search (rules, raised_sides)
+pub settles-requires : goal.settles-requires
+settles-requires c = search (rules, raised_places)
 
-pub returns-then-join_settles : goal.returns-then-join_settles
-returns-then-join_settles c = search (rules, settled_found)
+pub returns-then-settles : goal.returns-then-settles
+returns-then-settles c = search (rules, settled_found)
 
-pub loop-i-preserved : goal.loop-i-preserved
-loop-i-preserved c =
-    passed_next _ _ c.loop-i-test.true c.term_of.ensures c.term_of-in-loop-i.ensures c.join_settles.ensures c.loop-i.invariant c.if-join_settles.false
-
-pub returns : goal.returns
-returns c = search (rules, all_passed)
+pub loop-pair-preserved : goal.loop-pair-preserved
+loop-pair-preserved c = search (rules, passed_next)

@@ -1,12 +1,8 @@
--- `join_is_free` meets its contract: the questions passed are not settled by the joined classes, and one that is settles the matter.
-use Prim.Native.Nat.{◌-◌}
-use Rattle.facts.specs.Record.{state}
+-- `join_is_free` meets its contract: no question passed is settled by the joined classes, and one that is settles the matter.
+use Rattle.facts.specs.Record.{classes_in}
 use Rattle.facts.specs.State.{joined}
-use Rattle.facts.proofs.RecordWays.{PassedNoes}
+use Rattle.facts.proofs.NoesWays.{PassedNoes}
 use Rattle.facts.proofs.deciding.join_is_free.Given as goal
 
-abbrev pub invariant-loop-i : goal.invariant-loop-i
-invariant-loop-i l = PassedNoes l.f (joined (state l.f).classes l.into l.from l.by) l.i
-
-abbrev pub decreases-loop-i : goal.decreases-loop-i
-decreases-loop-i l = l.f.noes - l.i
+abbrev pub invariant-loop-pair : goal.invariant-loop-pair
+invariant-loop-pair l = PassedNoes l.fn.f.noes.pairs (joined (classes_in l.fn.f.places) l.join) l.pair-index

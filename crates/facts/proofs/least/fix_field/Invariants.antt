@@ -4,8 +4,8 @@ use Rattle.facts.specs.Least.{least_count}
 use Rattle.facts.specs.Record.{state}
 use Rattle.facts.proofs.least.fix_field.Given as goal
 
-abbrev pub invariant-loop-facts : goal.invariant-loop-facts
-invariant-loop-facts l = l.count ≤ least_count (state l.f) l.x.0
+abbrev pub invariant-loop-g : goal.invariant-loop-g
+invariant-loop-g l = l.count ≤ least_count (state l.fn.f) l.x.0
 
-abbrev pub decreases-loop-facts : goal.decreases-loop-facts
-decreases-loop-facts l = least_count (state l.f) l.x.0 - l.count
+abbrev pub decreases-loop-g : goal.decreases-loop-g
+decreases-loop-g l = least_count (state l.fn.f) l.x.0 - l.count
