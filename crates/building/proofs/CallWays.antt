@@ -13,7 +13,7 @@ use Rattle.building.specs.Needs.{are_handles, CanChoose}
 use Rattle.inserting.specs.Needs.{CanAdd}
 use Rattle.inserting.specs.SubjectMeaning.{choice}
 use Rattle.operations.specs.declared.answer.BuildFault.TheVariants.{NotSound, NoHandle, BadTable}
-use Rattle.operations.specs.declared.answer.Built.{Built}
+use Rattle.operations.specs.Built.{Built}
 use Rattle.operations.specs.Operations.{refused, if_sound, if_handles, if_taken, added, add_meaning, build, negate, join, choose}
 use Rattle.store.specs.Layout.{heading_length, used, leaves, entries_start, is_handle}
 use Rattle.store.specs.Meaning.{meaning}

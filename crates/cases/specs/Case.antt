@@ -6,15 +6,13 @@ use Rattle.examples.specs.LargestGap.{list_gap}
 use Rattle.normal_form.specs.Check as normal_form
 use Rattle.normal_form.specs.CheckAnswer.{checked_number, checked_result}
 use Rattle.normal_form.specs.Limits.{table_limits}
-use Rattle.operations.specs.declared.answer.Built.{Built}
-use Rattle.operations.specs.Built.{built_number, built_result}
+use Rattle.operations.specs.Built.{Built, built_number, built_result}
 use Rattle.operations.specs.Operations as operation
 use Rattle.raw_lists.specs.OpenRaw as raw_lists
 use Rattle.raw_lists.specs.RawOpened.{raw_number}
 use Rattle.reading.specs.Read.{read_sheet, read_number, read_result}
-use Rattle.store.specs.declared.answer.Opened.{Opened}
+use Rattle.store.specs.Opened.{Opened, open_number}
 use Rattle.store.specs.Open.{open_store}
-use Rattle.store.specs.Opened.{open_number}
 use Rattle.store.specs.Outcome as specs
 use Rattle.terms.specs.declared.simplification.SimplifyAnswer.{SimplifyAnswer}
 use Rattle.terms.specs.Limits.{term_limits, store_limits, logger_limits}

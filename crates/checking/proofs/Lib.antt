@@ -2,7 +2,6 @@ pub mod EntryWays
 pub mod PassWays
 pub mod TermWays
 pub mod HandleWays
-pub mod DifferWays
 pub mod MarkWays
 pub mod OrderWays
 pub mod FieldSets

@@ -1,13 +1,11 @@
 -- What the code relies on, and no claim.
-use Rattle.std.specs.Prelude.{ℕ, ◌+◌, ◌-◌, ◌*◌, ◌/◌, ◌%◌, ◌≤◌, ◌<◌, ◌≡◌, Bool, not, List, length, replicate}
-use Rattle.index.specs.Needs.{Chains}
+use Rattle.std.specs.Prelude.{ℕ, ◌+◌, ◌-◌, ◌*◌, ◌/◌, ◌%◌, ◌≤◌, ◌<◌, ◌≡◌, List, length}
+use Rattle.index.specs.Entries.{buckets}
 use Rattle.normal_form.specs.declared.entry.Entry.{Entry}
-use Rattle.normal_form.specs.Check.{same_entry}
 use Rattle.normal_form.specs.Limits.{most_table_entries, table_limits}
 use Rattle.normal_form.specs.Reachable.{flag_count}
 use Rattle.normal_form.specs.Table.{entry_length, entry_count, entry}
 use Rattle.store.specs.Layout.{leaves}
-use Rattle.store.specs.Sound.{all_below}
 use Rattle.terms.specs.declared.term.Equation.{Equation}
 use Rattle.checking.specs.FieldSets.{field_sets}
 
@@ -52,40 +50,9 @@ pub record Shaped (t : List ℕ) (root count : ℕ) : Type 0 where
   pub few : count ≤ most_table_entries
   pub root_low : root < count + leaves
 
--- ---- the index: for each bucket the last entry in it, and for each entry the one before it in its bucket
-abbrev pub buckets : ℕ
-buckets = most_table_entries
-
 -- the bucket of an entry: any function would do, and this one spreads ordinary entries well
 unfoldable pub hash_of : Entry → ℕ
 hash_of e = (e.left * 524114809 + e.right * 663608941 + e.yes * 786033567 + e.no * 444758427) / 1048576 % buckets
-
--- r is the bucket of the entry
-pub record Hash (e : Entry) (r : ℕ) : Type 0 where
-  pub is : r ≡ hash_of e
-  pub low : r < buckets
-
--- the bucket of the i-th entry
-unfoldable pub bucket : List ℕ → ℕ → ℕ
-bucket t i = hash_of (entry t i)
-
--- the first k entries are in the index
-pub record Indexed (t : List ℕ) (k : ℕ) (lasts links : List ℕ) : Type 0 where
-  pub chains : Chains buckets most_table_entries (bucket t) k lasts links
-
--- an index of no entries
-pub record Empty (lasts links : List ℕ) : Type 0 where
-  pub buckets : lasts ≡ replicate buckets 0
-  pub room : links ≡ replicate most_table_entries 0
-
--- the first k entries lie within the words, and are in the index
-pub record Searchable (t : List ℕ) (k : ℕ) (lasts links : List ℕ) : Type 0 where
-  pub fits : HasEntries t k
-  pub index : Indexed t k lasts links
-
--- none of the first k entries equals e
-unfoldable pub none_equal : List ℕ → ℕ → Entry → Bool
-none_equal t k e = all_below k (λ j. not (same_entry (entry t j) e))
 
 -- ---- sets of fields
 -- the digits of a word

@@ -4,13 +4,14 @@ ghost use Rattle.checking.specs.Needs.{AllHaveParts, Rooted, Shaped};
 ghost use Rattle.normal_form.specs.Check as rule;
 ghost use Rattle.normal_form.specs.Limits.{table_limits};
 
-use crate::differing::entries_differ;
+use crate::differing::TableEntry;
 use crate::entries::{CAPACITY, ENTRY_LENGTH};
 use crate::handles::all_handles_lower;
 use crate::marking::all_reachable;
 use crate::naming::lefts_apart;
 use crate::ordering::all_ordered;
 use crate::questions::all_terms_kept;
+use index::entries_differ;
 use normal_form::{CheckAnswer, CheckFault};
 use store::{LEAVES, wide};
 
@@ -56,7 +57,7 @@ fn check_diagram(t: &[u32], root: u32, count: usize) -> CheckAnswer
     requires { Rooted t.now root count }
     ensures { result ≡ rule.check_diagram table_limits t.now root }
 {
-    if entries_differ(t, count) {
+    if entries_differ::<TableEntry>(t, 0, count) {
         if all_reachable(t, wide(root), count) {
             if no_rule_applies(t, count) {
                 return root_verdict(root);

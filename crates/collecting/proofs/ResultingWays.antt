@@ -18,8 +18,8 @@ use Rattle.terms.specs.declared.order.ListOrder.{ListOrder}
 use Rattle.terms.specs.Limits.{terms_within}
 use Rattle.terms.specs.Order.{Order, order_of, order_number}
 use Rattle.raw_lists.specs.declared.answer.RawFault.TheVariants.{OutOfLimits, TooManyQuestions, TooShort}
-use Rattle.raw_lists.specs.declared.answer.RawOpened.{RawOpened}
-use Rattle.raw_lists.specs.declared.answer.RawOpened.TheVariants.{Accepted}
+use Rattle.raw_lists.specs.RawOpened.{RawOpened}
+use Rattle.std.specs.Prelude.{Ok}
 use Rattle.collecting.specs.declared.collecting.Collected.{Collected}
 use Rattle.collecting.specs.declared.collecting.Collected.TheVariants as collected
 use Rattle.raw_lists.specs.Equations.{equations, words_of}
@@ -56,7 +56,7 @@ module _ (limits : Limits) (n order : ℕ) (words : List ℕ) (count : ℕ) (s :
       few_words h = omega (arith, long)
 
       -- the part of the words from 0 on, as the code lends it
-      pub opens : {t : List ℕ} → t ≡ opened_words n order (take (2 * count - 0) words) (length s) → outcome Accepted t ≡ open_resulting limits n order list s
+      pub opens : {t : List ℕ} → t ≡ opened_words n order (take (2 * count - 0) words) (length s) → outcome (Ok tt) t ≡ open_resulting limits n order list s
       unfolding open_resulting
       opens e = rw (short, le-ltb (length s) (heading_length + length list) list_room, e, sub-zero)
 

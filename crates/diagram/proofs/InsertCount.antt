@@ -8,14 +8,13 @@ use mathlib.Core.List.{List, [], ◌∷◌}
 use native.Mathlib.Omega.{arith}
 use native.Mathlib.Decide.{ℕ_discrete}
 use lib.ListN.{length}
+use Rattle.std.proofs.Common.{Option, Some, None}
 use Rattle.terms.specs.declared.limits.Limits.{Limits}
 use Rattle.store.specs.declared.entries.Entry.{Entry}
 use Rattle.store.specs.Entries.{with_entry}
 use Rattle.store.specs.Layout.{question_count, used, entry, entry_of, leaves, room}
 use Rattle.store.specs.Outcome.{Outcome, outcome}
 use Rattle.store.specs.Tree.{Tree, leaf, node, tree, Ascending, Reduced}
-use Rattle.diagram.specs.declared.placing.Placed.{Placed}
-use Rattle.diagram.specs.declared.placing.Placed.TheVariants.{At, Full}
 use Rattle.diagram.specs.Finish.{same_tree}
 use Rattle.diagram.specs.Insert.{place_entry, then_place, leaf_handle, insert, some_below, is_stored, is_among, collect, new_trees}
 use Rattle.diagram.specs.Inserted.{GrowsBy}
@@ -92,14 +91,14 @@ record Collected (limits : Limits) (s₀ s : List ℕ) (xs : List Tree) : Type 0
   counted : used s ≡ used s₀ + length xs
   same_room : room limits s ≡ room limits s₀
 
-record Counts (limits : Limits) (s₀ : List ℕ) (xs : List Tree) (o : Outcome Placed) : Type 0 where
-  when_at : (h : ℕ) → o.answer ≡ At h → Collected limits s₀ o.words xs
-  when_full : o.answer ≡ Full → room limits s₀ < used s₀ + length xs
+record Counts (limits : Limits) (s₀ : List ℕ) (xs : List Tree) (o : Outcome (Option ℕ)) : Type 0 where
+  when_at : (h : ℕ) → o.answer ≡ Some h → Collected limits s₀ o.words xs
+  when_full : o.answer ≡ None → room limits s₀ < used s₀ + length xs
 
-counts_at : {limits : Limits} {s₀ s : List ℕ} {xs : List Tree} (h : ℕ) → Collected limits s₀ s xs → Counts limits s₀ xs (outcome (At h) s)
+counts_at : {limits : Limits} {s₀ s : List ℕ} {xs : List Tree} (h : ℕ) → Collected limits s₀ s xs → Counts limits s₀ xs (outcome (Some h) s)
 counts_at h c = record { when_at = λ _ _. c; when_full = λ d. let z : ◌≡◌ {A = ℕ} 0 1 = cc in absurd (omega arith) }
 
-counts_full : {limits : Limits} {s₀ s : List ℕ} {xs : List Tree} → room limits s₀ < used s₀ + length xs → Counts limits s₀ xs (outcome Full s)
+counts_full : {limits : Limits} {s₀ s : List ℕ} {xs : List Tree} → room limits s₀ < used s₀ + length xs → Counts limits s₀ xs (outcome None s)
 counts_full r = record { when_at = λ h d. let z : ◌≡◌ {A = ℕ} 0 1 = cc in absurd (omega arith); when_full = λ _. r }
 
 collect_more : (s : List ℕ) (t : Tree) (xs : List Tree) → length xs ≤ length (collect s t xs)
@@ -155,7 +154,7 @@ module _ {limits : Limits} (t : Tree) {s : List ℕ} (snd : Sound limits s) (a :
   unfolding is_among
   insert_count = go o.answer refl
     where
-      o : Outcome Placed
+      o : Outcome (Option ℕ)
       o = insert limits s t
 
       none : Collected limits s s []
@@ -164,8 +163,8 @@ module _ {limits : Limits} (t : Tree) {s : List ℕ} (snd : Sound limits s) (a :
       counts : Counts limits s (new_trees s t []) o
       counts = insert_counts t [] snd 1 (question_count s) a r (omega arith) (omega arith) none
 
-      go : (p : Placed) → o.answer ≡ p → GrowsBy limits s t o
-      go (At h) d =
+      go : (p : Option ℕ) → o.answer ≡ p → GrowsBy limits s t o
+      go (Some h) d =
           let c = counts.when_at h d in
           record { fits = λ _. (h, d, c.counted); full = λ l. absurd (omega (arith, c.counted, c.same_room, (insert_grows t snd a r).sound.used_in)) }
-      go Full d = record { fits = λ l. absurd (omega (arith, counts.when_full d)); full = λ _. d }
+      go None d = record { fits = λ l. absurd (omega (arith, counts.when_full d)); full = λ _. d }

@@ -5,8 +5,7 @@ use mathlib.Core.Path.{◌≡◌, refl, sym, ap, ap₂, ◌∙◌, subst}
 use mathlib.Core.Bool.{true, false}
 use mathlib.Core.List.{List}
 use native.Mathlib.Omega.{arith}
-use Rattle.diagram.specs.declared.placing.Placed.{Placed}
-use Rattle.diagram.specs.declared.placing.Placed.TheVariants.{At, Full}
+use Rattle.std.proofs.Common.{Option, Some, None}
 use Rattle.diagram.specs.Insert.{place_entry, then_place, insert}
 use Rattle.diagram.specs.Inserted.{Inserted}
 use Rattle.store.specs.declared.entries.Entry.{Entry}
@@ -25,26 +24,26 @@ use Rattle.store.proofs.StoreWords.{fields_agree, questions_agree, question_agre
 
 -- ---- what is placed
 -- the words are the store grown, and at the handle, if there is one, stands the tree
-pub record Puts (limits : Limits) (s : List ℕ) (t : Tree) (o : Outcome Placed) : Type 0 where
+pub record Puts (limits : Limits) (s : List ℕ) (t : Tree) (o : Outcome (Option ℕ)) : Type 0 where
   pub grown : Grown limits s o.words
-  pub handle_in : (h : ℕ) → o.answer ≡ At h → h < used o.words + leaves
-  pub stands : (h : ℕ) → o.answer ≡ At h → tree o.words h ≡ t
+  pub handle_in : (h : ℕ) → o.answer ≡ Some h → h < used o.words + leaves
+  pub stands : (h : ℕ) → o.answer ≡ Some h → tree o.words h ≡ t
 
-puts_at : {limits : Limits} {t : Tree} {s s' : List ℕ} (h : ℕ) → Grown limits s s' → h < used s' + leaves → tree s' h ≡ t → Puts limits s t (outcome (At h) s')
+puts_at : {limits : Limits} {t : Tree} {s s' : List ℕ} (h : ℕ) → Grown limits s s' → h < used s' + leaves → tree s' h ≡ t → Puts limits s t (outcome (Some h) s')
 puts_at {limits} {t} {s} {s'} h g l e = record {
   grown = g;
   handle_in = λ j p. let d : h ≡ j = cc in omega arith;
   stands = λ j p. let d : h ≡ j = cc in subst (λ x. tree s' x ≡ t) d e;
 }
 
-puts_full : {limits : Limits} {t : Tree} {s s' : List ℕ} → Grown limits s s' → Puts limits s t (outcome Full s')
+puts_full : {limits : Limits} {t : Tree} {s s' : List ℕ} → Grown limits s s' → Puts limits s t (outcome None s')
 puts_full g = record {
   grown = g;
   handle_in = λ h p. let z : ◌≡◌ {A = ℕ} 0 1 = cc in absurd (omega arith);
   stands = λ h p. let z : ◌≡◌ {A = ℕ} 0 1 = cc in absurd (omega arith);
 }
 
-puts_after : {limits : Limits} {t t' : Tree} {s s' : List ℕ} {o : Outcome Placed} → Grown limits s s' → t' ≡ t → Puts limits s' t' o → Puts limits s t o
+puts_after : {limits : Limits} {t t' : Tree} {s s' : List ℕ} {o : Outcome (Option ℕ)} → Grown limits s s' → t' ≡ t → Puts limits s' t' o → Puts limits s t o
 puts_after g e p = record { grown = grown_on g p.grown; handle_in = p.handle_in; stands = λ h a. p.stands h a ∙ e }
 
 -- ---- an entry
@@ -56,13 +55,13 @@ place_puts {limits} {s} snd e f = place_cases limits s e (Puts limits s (tree_of
 
 -- ---- a diagram
 -- A claim about the next step holds if it holds at each handle that the step before may give, and where that found no room.
-pub then_cases : (P : Outcome Placed → Type 0) (o : Outcome Placed) (next : ℕ → List ℕ → Outcome Placed)
-    → ((h : ℕ) → o.answer ≡ At h → P (next h o.words)) → (o.answer ≡ Full → P (outcome Full o.words)) → P (then_place o next)
+pub then_cases : (P : Outcome (Option ℕ) → Type 0) (o : Outcome (Option ℕ)) (next : ℕ → List ℕ → Outcome (Option ℕ))
+    → ((h : ℕ) → o.answer ≡ Some h → P (next h o.words)) → (o.answer ≡ None → P (outcome None o.words)) → P (then_place o next)
 then_cases P o next at full = go o.answer refl
   where
-    go : (a : Placed) → o.answer ≡ a → P (then_place o next)
-    go (At h) d = rw d (at h d)
-    go Full d = rw d (full d)
+    go : (a : Option ℕ) → o.answer ≡ a → P (then_place o next)
+    go (Some h) d = rw d (at h d)
+    go None d = rw d (full d)
 
 -- the entry of a handle asks no question before the least of its tree
 rises : {limits : Limits} {s : List ℕ} → Sound limits s → (least most h : ℕ) → h < used s + leaves → Ascending least most (tree s h) → leaves ≤ h
@@ -75,8 +74,8 @@ rises {s = s} snd least most = by_handle (used s) (λ h. Ascending least most (t
     subst (λ j. least ≤ (entry s j).question) z first.0)
 
 -- both parts of a node were added: its entry may stand after the last, and its tree is the node
-module _ {limits : Limits} {s : List ℕ} (k : ℕ) {y n : Tree} {o₁ o₂ : Outcome Placed} (p₁ : Puts limits s y o₁) (p₂ : Puts limits o₁.words n o₂)
-    (hy hn : ℕ) (e₁ : o₁.answer ≡ At hy) (e₂ : o₂.answer ≡ At hn) where
+module _ {limits : Limits} {s : List ℕ} (k : ℕ) {y n : Tree} {o₁ o₂ : Outcome (Option ℕ)} (p₁ : Puts limits s y o₁) (p₂ : Puts limits o₁.words n o₂)
+    (hy hn : ℕ) (e₁ : o₁.answer ≡ Some hy) (e₂ : o₂.answer ≡ Some hn) where
   yes_in : hy < used o₂.words + leaves
   yes_in = omega (arith, p₁.handle_in hy e₁, p₂.grown.grows)
 
@@ -122,7 +121,7 @@ module _ {limits : Limits} (t : Tree) {s : List ℕ} (snd : Sound limits s) (a :
   from_one : Puts limits s t (insert limits s t)
   from_one = insert_puts t snd 1 (question_count s) a r (omega arith) (omega arith)
 
-  pub insert_tree : (h : ℕ) → (insert limits s t).answer ≡ At h → Inserted limits s t h (insert limits s t).words
+  pub insert_tree : (h : ℕ) → (insert limits s t).answer ≡ Some h → Inserted limits s t h (insert limits s t).words
   insert_tree h e =
       let g = from_one.grown in
       record {

@@ -1,36 +1,34 @@
 -- Adding a diagram to a store: "New entries are added with the yes part's first, then the no part's, then the entry itself; one already present
 -- is used again."
-use Rattle.std.specs.Prelude.{ℕ, zero, suc, ◌+◌, Bool, true, false, cond, ◌||◌, List, [], ◌∷◌, ltb, length}
+use Rattle.std.specs.Prelude.{ℕ, zero, suc, ◌+◌, Bool, true, false, cond, ◌||◌, List, [], ◌∷◌, ltb, length, Option, Some, None}
 use Rattle.store.specs.Entries.{find_entry, with_entry}
 use Rattle.terms.specs.declared.limits.Limits.{Limits}
 use Rattle.store.specs.declared.entries.Entry.{Entry}
 use Rattle.store.specs.Layout.{used, leaves, entry_of, room}
 use Rattle.store.specs.Outcome.{Outcome, outcome}
 use Rattle.store.specs.Tree.{Tree, leaf, node, tree}
-use Rattle.diagram.specs.declared.placing.Placed.{Placed}
-use Rattle.diagram.specs.declared.placing.Placed.TheVariants.{At, Full}
 use Rattle.diagram.specs.Finish.{same_tree}
 
 -- an entry that is not there is added after the last, if there is room
-unfoldable pub add_entry : Limits → List ℕ → Entry → Outcome Placed
-add_entry limits s e = cond (ltb (used s) (room limits s)) (outcome (At (used s + leaves)) (with_entry s e)) (outcome Full s)
+unfoldable pub add_entry : Limits → List ℕ → Entry → Outcome (Option ℕ)
+add_entry limits s e = cond (ltb (used s) (room limits s)) (outcome (Some (used s + leaves)) (with_entry s e)) (outcome None s)
 
 -- "one already present is used again"
-unfoldable pub place_entry : Limits → List ℕ → Entry → Outcome Placed
+unfoldable pub place_entry : Limits → List ℕ → Entry → Outcome (Option ℕ)
 place_entry limits s e =
     let i = find_entry s (used s) e in
-    cond (ltb i (used s)) (outcome (At (i + leaves)) s) (add_entry limits s e)
+    cond (ltb i (used s)) (outcome (Some (i + leaves)) s) (add_entry limits s e)
 
 -- go on with the handle and the words, unless the store was full
-abbrev pub then_place : Outcome Placed → (ℕ → List ℕ → Outcome Placed) → Outcome Placed
-then_place o next = elim o.answer as (λ _. Outcome Placed) [ At h ↦ next h o.words | Full ↦ outcome Full o.words ]
+abbrev pub then_place : Outcome (Option ℕ) → (ℕ → List ℕ → Outcome (Option ℕ)) → Outcome (Option ℕ)
+then_place o next = elim o.answer as (λ _. Outcome (Option ℕ)) [ Some h ↦ next h o.words | None ↦ outcome None o.words ]
 
 abbrev pub leaf_handle : Bool → ℕ
 leaf_handle true = 1
 leaf_handle false = 0
 
-unfoldable pub insert : Limits → List ℕ → Tree → Outcome Placed
-insert limits s (leaf b) = outcome (At (leaf_handle b)) s
+unfoldable pub insert : Limits → List ℕ → Tree → Outcome (Option ℕ)
+insert limits s (leaf b) = outcome (Some (leaf_handle b)) s
 insert limits s (node k y n) =
     then_place (insert limits s y) (λ hy s₁. then_place (insert limits s₁ n) (λ hn s₂. place_entry limits s₂ (entry_of k hy hn)))
 

@@ -1,7 +1,5 @@
 -- What it says that a diagram was added to a store, and how many entries it took.
-use Rattle.std.specs.Prelude.{ℕ, ◌+◌, ◌≤◌, ◌<◌, ◌≡◌, List, length}
-use Rattle.diagram.specs.declared.placing.Placed.{Placed}
-use Rattle.diagram.specs.declared.placing.Placed.TheVariants.{At, Full}
+use Rattle.std.specs.Prelude.{ℕ, ◌+◌, ◌≤◌, ◌<◌, ◌≡◌, List, length, Option, Some, None}
 use Rattle.diagram.specs.Insert.{new_count}
 use Rattle.store.specs.Grown.{Agree}
 use Rattle.store.specs.Layout.{field_count, question_count, question, used, leaves, room}
@@ -30,6 +28,6 @@ pub record Inserted (limits : Limits) (s : List ℕ) (t : Tree) (h : ℕ) (s' : 
 
 -- "So used grows by the number of different entries of the finished diagram that weren't there before.", and 51 is answered exactly if "used plus new
 -- entries exceeds room".
-pub record GrowsBy (limits : Limits) (s : List ℕ) (t : Tree) (o : Outcome Placed) : Type 0 where
-  pub fits : used s + new_count s t ≤ room limits s → (h : ℕ) × (o.answer ≡ At h) × (used o.words ≡ used s + new_count s t)
-  pub full : room limits s < used s + new_count s t → o.answer ≡ Full
+pub record GrowsBy (limits : Limits) (s : List ℕ) (t : Tree) (o : Outcome (Option ℕ)) : Type 0 where
+  pub fits : used s + new_count s t ≤ room limits s → (h : ℕ) × (o.answer ≡ Some h) × (used o.words ≡ used s + new_count s t)
+  pub full : room limits s < used s + new_count s t → o.answer ≡ None

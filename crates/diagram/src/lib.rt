@@ -1,6 +1,2 @@
-// The finished diagram of a meaning, and adding it to a store.
+// The finished diagram of a meaning, and adding it to a store. All of it is in specs/ and proofs/.
 #![tactic(auto)]
-
-mod placing;
-
-pub use placing::Placed;

@@ -1,140 +1,190 @@
--- The index over a store's entries, with a law for each way through the code: the first entry that is equal is the only one, and it lies in its bucket's chain.
-use Prim.Native.Nat.{ℕ, ◌+◌, ◌-◌, ◌≤◌, ◌<◌}
+-- The index over entries that keep the laws of `Indexed`, with a law for each way through the code: the first entry that is equal is the only one, and it
+-- lies in its bucket's chain.
+use Prim.Native.Nat.{ℕ, ◌+◌, ◌-◌, ◌*◌, ◌≤◌, ◌<◌}
 use mathlib.Core.Path.{◌≡◌, refl, ◌∙◌, ap, sym, subst}
-use mathlib.Core.Bool.{Bool, true, false, false≢true}
+use mathlib.Core.Bool.{Bool, true, false, false≢true, not}
 use mathlib.Core.List.{List}
 use native.Mathlib.Omega.{arith}
-use native.Mathlib.Decide.{ℕ_discrete}
-use lib.ListN.{get_or, set}
-use Rattle.store.specs.declared.entries.Entry.{Entry}
-use Rattle.store.specs.Layout.{entry}
-use Rattle.store.specs.Sound.{same_entry, differ_below}
-use Rattle.store.specs.Entries.{is_entry, find_entry}
-use Rattle.store.specs.Needs.{EntryFrom}
-use Rattle.index.specs.Needs.{capacity, buckets, EntriesFit, hash_of, Hash, bucket, Indexed, Empty, Searchable, Loaded}
-use Rattle.store.proofs.EntryFound.{first_none, first_at, found_is, none_found}
-use Rattle.store.proofs.SoundFacts.{same_entry_says, differ_says, differ_from}
+use borrow.Author.Tests.{lt-ltb, le-ltb, ltb-true, ltb-false}
+use lib.Dec.{ltb}
+use lib.ListN.{get_or, set, length, replicate}
+use Rattle.std.proofs.Common.{Option, Some, None, cond}
+use Rattle.std.specs.Option.{is_some}
+use Rattle.index.specs.declared.chains.Index.{Index}
+use Rattle.index.specs.Entries.{capacity, buckets, Bucket, none_equal, EntryLaws}
+use Rattle.index.specs.Needs.{EntriesFit, Holds, Empty, HasRoom, Searchable, Loaded, found}
 use Rattle.index.proofs.ChainLaws.{chains_none, chains_put, Walk, walk_start, walk_step}
-use Rattle.terms.proofs.Cases.{by_test}
+use Rattle.store.specs.Entries.{first}
+use Rattle.store.specs.Needs.{EntryFrom}
+use Rattle.store.specs.Sound.{all_below}
+use Rattle.store.proofs.EntryFound.{first_none, first_at, first_found, first_fails}
+use Rattle.store.proofs.Tests.{all_below_none, all_below_from, all_below_says, all_below_more, all_below_fails}
+use Rattle.terms.proofs.Cases.{by_test, by_lt}
 
--- the i-th entry lies within the words
+-- the i-th entry of a store lies within the words
 pub entry_in : (s : List ℕ) {start k : ℕ} (i : ℕ) → i < k → EntriesFit s start k → EntryFrom s start i
 entry_in s i h f = record { begin = f.begin; entry_in = omega (arith, f.begin, f.within) }
 
 -- ---- an entry goes into the index
-module _ (s : List ℕ) where
-  pub index_none : {lasts links : List ℕ} → Empty lasts links → Indexed s 0 lasts links
-  index_none x = record { chains = rw (x.buckets, x.room) (chains_none (bucket s) buckets capacity) }
+abbrev empty : Index
+empty = record { count = 0; lasts = replicate buckets 0; links = replicate capacity 0 }
 
-  pub index_put : {start k b : ℕ} {lasts links : List ℕ} → EntriesFit s start (k + 1) → Indexed s k lasts links → {e : Entry}
-      → e ≡ entry s k → Hash e b → Indexed s (k + 1) (set lasts b (k + 1)) (set links k (get_or lasts b 0))
-  unfolding bucket
-  index_put {start} {k} {b} {lasts} {links} f x ee h =
-      let few = f.few in
-      let low = h.low in
-      let e : b ≡ bucket s k = h.is ∙ ap hash_of ee in
-      record { chains = rw e (chains_put (bucket s) buckets capacity k lasts links x.chains (omega arith) (rw e at low)) }
+pub empty_index : Empty empty
+empty_index = record { none = refl; holds = λ f. record { chains = chains_none f buckets capacity } }
 
--- ---- entries that differ
-only_one : (s : List ℕ) (e : Entry) {k : ℕ} → differ_below s k ≡ true → (i : ℕ) → i < k → is_entry s e i ≡ true
-    → (j : ℕ) → j < i → is_entry s e j ≡ false
-unfolding is_entry
-only_one s e {k} d i h a j l =
-    by_test (λ t. t ≡ false) (same_entry (entry s j) e)
-    (λ b. absurd (differ_says s k d j i l h (same_entry_says (entry s j) e b ∙ sym (same_entry_says (entry s i) e a))))
-    (λ b. refl)
+abbrev with_entry : Index → ℕ → Index
+with_entry x b = record { count = x.count + 1; lasts = set x.lasts b (x.count + 1); links = set x.links x.count (get_or x.lasts b 0) }
 
--- ---- the walk of `find`: of the first entries, those that are e are below p, and the entry of p lies in the bucket of e
-abbrev pub Left : List ℕ → ℕ → Entry → ℕ → Type 0
-Left s used e p = Walk (bucket s) (is_entry s e) (hash_of e) used p
+pub holds_put : {x : Index} {due b : ℕ} → HasRoom x → Bucket due b → (f : ℕ → ℕ) → f x.count ≡ due → Holds f x → Holds f (with_entry x b)
+holds_put {x} {due} {b} r h f e k =
+    let few = r.few in
+    let low = h.low in
+    let d : b ≡ f x.count = h.is ∙ sym e in
+    record { chains = rw d (chains_put f buckets capacity x.count x.lasts x.links k.chains (omega arith) (rw d at low)) }
 
-module _ (s : List ℕ) (start used : ℕ) (e : Entry) {lasts links : List ℕ} (r : Searchable s start used lasts links) where
-  in_bucket : (j : ℕ) → is_entry s e j ≡ true → bucket s j ≡ hash_of e
-  unfolding bucket is_entry
-  in_bucket j t = ap hash_of (same_entry_says (entry s j) e t)
+-- ---- what a search of the first k entries answers
+module _ {A : Type 0} (entry : ℕ → A) (same : A → A → Bool) (e : A) (k : ℕ) where
+  abbrev is_e : ℕ → Bool
+  is_e j = same (entry j) e
 
-  pub left_all : {b p : ℕ} → Hash e b → p ≡ get_or lasts b 0 → Left s used e p
-  left_all h d =
-      rw (d, h.is)
-      (walk_start (bucket s) (is_entry s e) (hash_of e) used in_bucket (r.index.chains.last (hash_of e) (rw h.is at h.low)))
+  pub found_at : (i : ℕ) → i < k → is_e i ≡ true → ((j : ℕ) → j < i → is_e j ≡ false) → Some i ≡ found entry same e k
+  found_at i h t none =
+      let d : first is_e k 0 ≡ i = first_at is_e k 0 i (omega arith) (omega arith) t (λ j g l. none j l) in
+      rw (d, lt-ltb i k h)
 
-  module _ {p : ℕ} (l : Left s used e p) (h : 0 < p) where
-    pub entry_left : EntryFrom s start (p - 1)
-    entry_left = entry_in s (p - 1) (omega (arith, l.low)) r.fit
+  pub found_none : ((j : ℕ) → j < k → is_e j ≡ false) → None ≡ found entry same e k
+  found_none none =
+      let d : first is_e k 0 ≡ k = first_none is_e k 0 (λ j g l. none j (omega arith)) ∙ omega arith in
+      rw (d, le-ltb k k (omega arith))
 
-    tested : {d : Entry} {t : Bool} → d ≡ entry s (p - 1) → t ≡ same_entry d e → t ≡ is_entry s e (p - 1)
-    unfolding is_entry
-    tested ed et = et ∙ ap (λ (x : Entry). same_entry x e) ed
+  -- an answer that is a number says that the number's entry is e, and another one that none is
+  pub some_is_e : is_some (found entry same e k) ≡ true → (i : ℕ) × (i < k) × (is_e i ≡ true)
+  some_is_e t =
+      by_lt (λ b. is_some (cond b (Some (first is_e k 0)) None) ≡ true → (i : ℕ) × (i < k) × (is_e i ≡ true)) (first is_e k 0) k
+      (λ l _. (first is_e k 0, l, first_found is_e k 0 (omega arith)))
+      (λ l f. absurd (false≢true f))
+      t
 
-    pub left_falls : {p' : ℕ} → p' ≡ get_or links (p - 1) 0 → p' < p
-    left_falls d =
-        let low = l.low in
-        let below = (r.index.chains.next (p - 1) (omega arith)).low in
-        omega arith
+  pub none_is_e : is_some (found entry same e k) ≡ false → (j : ℕ) → j < k → is_e j ≡ false
+  none_is_e n =
+      by_lt (λ b. is_some (cond b (Some (first is_e k 0)) None) ≡ false → (j : ℕ) → j < k → is_e j ≡ false) (first is_e k 0) k
+      (λ l f. absurd (false≢true (sym f)))
+      (λ l _ j h. first_fails is_e k 0 (omega arith) j (omega arith) (omega arith))
+      n
 
-    pub left_less : {p' : ℕ} {d : Entry} {t : Bool} → d ≡ entry s (p - 1) → t ≡ same_entry d e → t ≡ false → p' ≡ get_or links (p - 1) 0 → Left s used e p'
-    left_less ed et b d =
-        let low = l.low in
-        rw d
-        (walk_step (bucket s) (is_entry s e) (hash_of e) used in_bucket l (p - 1) (omega arith) (sym (tested ed et) ∙ b)
-        (r.index.chains.next (p - 1) (omega arith)))
+-- the search for e among the first k entries: those that are e are below p, and the entry of p lies in the bucket of e
+abbrev pub Left : {A : Type 0} → (ℕ → A) → (A → ℕ) → (A → A → Bool) → ℕ → A → ℕ → Type 0
+Left entry bucket same k e p = Walk (λ i. bucket (entry i)) (λ i. same (entry i) e) (bucket e) k p
 
-    -- no entry before it is equal, since no two of the entries are
-    pub left_found : {d : Entry} {t : Bool} → d ≡ entry s (p - 1) → t ≡ same_entry d e → t ≡ true → p - 1 ≡ find_entry s used e
-    left_found ed et b =
-        let low = l.low in
-        sym (first_at (is_entry s e) used 0 (p - 1) (omega arith) (omega arith) (sym (tested ed et) ∙ b)
-        (λ j g k. only_one s e r.differ (p - 1) (omega arith) (sym (tested ed et) ∙ b) j k))
+module _ {A : Type 0} {fits : List ℕ → ℕ → ℕ → Type 0} {entry : List ℕ → ℕ → A} {differ : List ℕ → ℕ → Bool} {same eq : A → A → Bool} {bucket : A → ℕ}
+    (laws : EntryLaws fits entry differ same eq) (s : List ℕ) (start : ℕ) where
+  module _ {x : Index} (r : Searchable (fits s start) (entry s) bucket same x) (e : A) where
+    in_bucket : (j : ℕ) → same (entry s j) e ≡ true → bucket (entry s j) ≡ bucket e
+    in_bucket j t = ap bucket (laws.same_says (entry s j) e t)
 
-  pub left_none : {p : ℕ} → Left s used e p → p ≤ 0 → used ≡ find_entry s used e
-  left_none {p} l h =
-      sym (first_none (is_entry s e) used 0
-      (λ j g k. by_test (λ t. t ≡ false) (is_entry s e j)
-      (λ t. let low = l.left j (omega arith) t in absurd (omega arith))
-      (λ t. refl))
-      ∙ omega arith)
+    -- no entry before one that is e is e, since no two of the entries are equal
+    only_one : (i : ℕ) → i < x.count → same (entry s i) e ≡ true → (j : ℕ) → j < i → same (entry s j) e ≡ false
+    only_one i h a j l =
+        let unlike : ℕ → ℕ → Bool = λ n m. not (same (entry s m) (entry s n)) in
+        let u : unlike i j ≡ true = all_below_says (unlike i) i (all_below_says (λ n. all_below n (unlike n)) x.count r.differ i h) j l in
+        by_test (λ t. t ≡ false) (same (entry s j) e)
+        (λ b. absurd (false≢true (rw (laws.same_says (entry s i) e a, b) at u)))
+        (λ b. refl)
 
--- ---- the entries, one after the other
-module _ (s : List ℕ) {start used : ℕ} (f : EntriesFit s start used) where
-  pub ready_none : {lasts links : List ℕ} → Empty lasts links → Searchable s start 0 lasts links
-  ready_none x =
+    pub left_all : {b p : ℕ} → Bucket (bucket e) b → p ≡ get_or x.lasts b 0 → Left (entry s) bucket same x.count e p
+    left_all h d =
+        rw (d, h.is)
+        (walk_start (λ i. bucket (entry s i)) (λ i. same (entry s i) e) (bucket e) x.count in_bucket (r.index.chains.last (bucket e) (rw h.is at h.low)))
+
+    module _ {p : ℕ} (l : Left (entry s) bucket same x.count e p) (h : 0 < p) where
+      pub left_fits : fits s start (p - 1 + 1)
+      left_fits = laws.less s start (p - 1 + 1) x.count (omega (arith, l.low)) r.fit
+
+      pub left_low : p - 1 < capacity
+      left_low = omega (arith, l.low, laws.few s start x.count r.fit)
+
+      pub left_falls : {p' : ℕ} → p' ≡ get_or x.links (p - 1) 0 → p' < p
+      left_falls d =
+          let low = l.low in
+          let below = (r.index.chains.next (p - 1) (omega arith)).low in
+          omega arith
+
+      module _ {d : A} {t : Bool} (ed : d ≡ entry s (p - 1)) (et : t ≡ eq d e) where
+        tested : t ≡ same (entry s (p - 1)) e
+        tested = et ∙ laws.eq_is d e ∙ ap (λ (y : A). same y e) ed
+
+        pub left_less : {p' : ℕ} → t ≡ false → p' ≡ get_or x.links (p - 1) 0 → Left (entry s) bucket same x.count e p'
+        left_less b n =
+            let low = l.low in
+            rw n
+            (walk_step (λ i. bucket (entry s i)) (λ i. same (entry s i) e) (bucket e) x.count in_bucket l (p - 1) (omega arith) (sym tested ∙ b)
+            (r.index.chains.next (p - 1) (omega arith)))
+
+        pub left_found : t ≡ true → Some (p - 1) ≡ found (entry s) same e x.count
+        left_found b =
+            let low = l.low in
+            found_at (entry s) same e x.count (p - 1) (omega arith) (sym tested ∙ b) (only_one (p - 1) (omega arith) (sym tested ∙ b))
+
+    pub left_none : {p : ℕ} → Left (entry s) bucket same x.count e p → p ≤ 0 → None ≡ found (entry s) same e x.count
+    left_none {p} l h =
+        found_none (entry s) same e x.count (λ j g. by_test (λ t. t ≡ false) (same (entry s j) e)
+        (λ t. let low = l.left j g t in absurd (omega arith))
+        (λ t. refl))
+
+-- ---- the entries, one after the other: those before the i-th are in the index, and no two of them are equal
+pub record Loading {A : Type 0} (fits : ℕ → Type 0) (entry : ℕ → A) (bucket : A → ℕ) (same : A → A → Bool) (i : ℕ) (x : Index) : Type 0 where
+  pub counted : x.count ≡ i
+  pub ready : Searchable fits entry bucket same x
+
+module _ {A : Type 0} {fits : List ℕ → ℕ → ℕ → Type 0} {entry : List ℕ → ℕ → A} {differ : List ℕ → ℕ → Bool} {same eq : A → A → Bool} {bucket : A → ℕ}
+    (laws : EntryLaws fits entry differ same eq) (s : List ℕ) (start : ℕ) {entries : ℕ} (f : fits s start entries) where
+  pub loading_begins : {x : Index} → Empty x → Loading (fits s start) (entry s) bucket same 0 x
+  loading_begins {x} m =
       record {
-        fit = record { begin = f.begin; within = let w = f.within in omega arith; few = omega arith };
-        differ = differ_from s 0 (λ j i h l. absurd (omega arith));
-        index = index_none s x;
+        counted = m.none;
+        ready = record {
+          fit = laws.less s start x.count entries (omega (arith, m.none)) f;
+          differ = rw (m.none) (all_below_none (λ i. all_below i (λ j. not (same (entry s j) (entry s i)))));
+          index = m.holds (λ i. bucket (entry s i));
+        };
       }
 
-  module _ (i : ℕ) {r : ℕ} {e : Entry} (ee : e ≡ entry s i) (er : r ≡ find_entry s i e) where
-    is_first : r ≡ find_entry s i (entry s i)
-    is_first = er ∙ ap (find_entry s i) ee
+  module _ {i : ℕ} {x : Index} (l : Loading (fits s start) (entry s) bucket same i x) (h : i < entries) {e : A} (ee : e ≡ entry s i) where
+    of_entry : {d : A} {b : Bool} → same d e ≡ b → same d (entry s i) ≡ b
+    of_entry {d} {b} t = subst (λ (y : A). same d y ≡ b) ee t
 
-    differ_more : i ≤ r → differ_below s i ≡ true → differ_below s (i + 1) ≡ true
-    differ_more h d = differ_from s (i + 1) (λ j k l m. elim (ℕ_discrete k i) [
-      | yes z ↦ λ c. none_found s i (entry s i) (omega (arith, is_first)) j (omega arith) (c ∙ ap (entry s) z)
-      | no n ↦ differ_says s i d j k l (omega arith)
-    ])
+    pub has_room : HasRoom x
+    has_room = record { few = omega (arith, l.counted, laws.few s start entries f) }
 
-    equal_found : r < i → i < used → differ_below s used ≡ false
-    equal_found h l =
-        let found : find_entry s i (entry s i) < i = omega (arith, is_first) in
-        by_test (λ t. t ≡ false) (differ_below s used)
-        (λ t. absurd (differ_says s used t (find_entry s i (entry s i)) i found l (found_is s i (entry s i) found)))
-        (λ _. refl)
-
-    pub ready_more : {lasts links lasts' links' : List ℕ} → i < used → Searchable s start i lasts links → i ≤ r → Indexed s (i + 1) lasts' links'
-        → Searchable s start (i + 1) lasts' links'
-    ready_more l x h y =
+    pub loading_more : {o : Option ℕ} {x' : Index} → o ≡ found (entry s) same e x.count → false ≡ is_some o → x'.count ≡ x.count + 1
+        → ((g : ℕ → ℕ) → g x.count ≡ bucket e → Holds g x → Holds g x') → Loading (fits s start) (entry s) bucket same (i + 1) x'
+    loading_more {o} {x'} eo n c put =
+        let counted : x'.count ≡ i + 1 = c ∙ ap (λ k. k + 1) l.counted in
+        let none = none_is_e (entry s) same e x.count (sym (n ∙ ap is_some eo)) in
         record {
-          fit = record { begin = f.begin; within = let w = f.within in omega arith; few = let w = f.few in omega arith };
-          differ = differ_more h x.differ;
-          index = y;
+          counted = counted;
+          ready = record {
+            fit = laws.less s start x'.count entries (omega arith) f;
+            differ = rw counted (all_below_more (λ n. all_below n (λ j. not (same (entry s j) (entry s n)))) (subst (λ k. none_equal same (entry s) k ≡ true) l.counted l.ready.differ)
+                (all_below_from (λ j. not (same (entry s j) (entry s i))) i (λ j g. ap not (of_entry (none j (omega (arith, l.counted)))))));
+            index = put (λ n. bucket (entry s n)) (ap (λ k. bucket (entry s k)) l.counted ∙ ap bucket (sym ee)) l.ready.index;
+          };
         }
 
-    pub loaded_no : {lasts links : List ℕ} → r < i → i < used → Loaded false s start used lasts links
-    loaded_no h l = record { is = sym (equal_found h l); ready = λ t. absurd (false≢true t) }
+    pub equal_found : {o : Option ℕ} → o ≡ found (entry s) same e x.count → true ≡ is_some o → false ≡ differ s entries
+    equal_found eo t =
+        let some = some_is_e (entry s) same e x.count (sym (t ∙ ap is_some eo)) in
+        sym (laws.differ_is s entries
+        ∙ all_below_fails (λ n. all_below n (λ j. not (same (entry s j) (entry s n)))) entries i h
+        (all_below_fails (λ j. not (same (entry s j) (entry s i))) i some.0 (omega (arith, some.1, l.counted)) (ap not (of_entry some.2))))
 
-  pub loaded_yes : {i : ℕ} {lasts links : List ℕ} → i ≤ used → used ≤ i → Searchable s start i lasts links → Loaded true s start used lasts links
-  loaded_yes {i} {lasts} {links} h l x =
-      let e : i ≡ used = omega arith in
-      let ready = subst (λ (k : ℕ). Searchable s start k lasts links) e x in
-      record { is = sym ready.differ; ready = λ t. ready }
+  module _ {i : ℕ} {x : Index} (l : Loading (fits s start) (entry s) bucket same i x) (e : i ≡ entries) where
+    pub all_differ : true ≡ differ s entries
+    all_differ = sym (laws.differ_is s entries ∙ subst (λ k. none_equal same (entry s) k ≡ true) (l.counted ∙ e) l.ready.differ)
+
+    pub all_loaded : Loaded true (fits s start) (entry s) bucket same entries x
+    all_loaded = record { all = λ _. l.counted ∙ e; ready = λ _. l.ready }
+
+pub none_loaded : {A : Type 0} {fits : ℕ → Type 0} {entry : ℕ → A} {bucket : A → ℕ} {same : A → A → Bool} {k : ℕ} {x : Index}
+    → Loaded false fits entry bucket same k x
+none_loaded = record { all = λ t. absurd (false≢true t); ready = λ t. absurd (false≢true t) }

@@ -1,36 +1,21 @@
 -- What the code relies on, and no claim. The index: for each bucket the last entry in it, and for each entry the one before it in its
 -- bucket. A link is one more than an entry's number, and 0 where there is none.
-use Rattle.std.specs.Prelude.{ℕ, ◌+◌, ◌*◌, ◌/◌, ◌%◌, ◌≤◌, ◌<◌, ◌≡◌, Bool, true, List, length, get_or, replicate}
+use Rattle.std.specs.Prelude.{ℕ, zero, suc, ◌+◌, ◌*◌, ◌/◌, ◌%◌, ◌≤◌, ◌<◌, ◌≡◌, Bool, true, cond, ltb, Option, Some, None, List, length, get_or, replicate}
+use Rattle.index.specs.declared.chains.Index.{Index}
+use Rattle.index.specs.Entries.{capacity, buckets, none_equal}
 use Rattle.store.specs.declared.entries.Entry.{Entry}
-use Rattle.store.specs.Layout.{entries_start, entry}
-use Rattle.store.specs.Sound.{differ_below}
-use Rattle.terms.specs.Limits.{most_entries}
+use Rattle.store.specs.Entries.{first}
+use Rattle.store.specs.Layout.{entries_start}
 
--- how many entries an index holds, and over how many buckets it spreads them
-abbrev pub capacity : ℕ
-capacity = most_entries
-
-abbrev pub buckets : ℕ
-buckets = capacity
-
--- the first k entries begin at the word `start` and lie within the words, and an index holds them
+-- the first k entries of a store begin at the word `start` and lie within the words, and an index holds them
 pub record EntriesFit (s : List ℕ) (start k : ℕ) : Type 0 where
   pub begin : start ≡ entries_start s
   pub within : start + 3 * k ≤ length s
   pub few : k ≤ capacity
 
--- the bucket of an entry: any function would do, and this one spreads ordinary entries well
+-- the bucket of a store's entry: any function would do, and this one spreads ordinary entries well
 unfoldable pub hash_of : Entry → ℕ
 hash_of e = (e.question * 524114809 + e.yes * 1518500249 + e.no * 1859775393) / 1048576 % buckets
-
--- r is the bucket of the entry
-pub record Hash (e : Entry) (r : ℕ) : Type 0 where
-  pub is : r ≡ hash_of e
-  pub low : r < buckets
-
--- the bucket of the i-th entry
-unfoldable pub bucket : List ℕ → ℕ → ℕ
-bucket s i = hash_of (entry s i)
 
 -- p is one more than the last number below k that f puts into b, or 0 where there is none
 pub record Top (f : ℕ → ℕ) (b k p : ℕ) : Type 0 where
@@ -45,22 +30,32 @@ pub record Chains (n m : ℕ) (f : ℕ → ℕ) (k : ℕ) (lasts links : List �
   pub last : (b : ℕ) → b < n → Top f b k (get_or lasts b 0)
   pub next : (i : ℕ) → i < k → Top f (f i) i (get_or links i 0)
 
--- the first k entries are in the index
-pub record Indexed (s : List ℕ) (k : ℕ) (lasts links : List ℕ) : Type 0 where
-  pub chains : Chains buckets capacity (bucket s) k lasts links
+-- the entries that are counted are in the index, where f gives the bucket of each
+pub record Holds (f : ℕ → ℕ) (x : Index) : Type 0 where
+  pub chains : Chains buckets capacity f x.count x.lasts x.links
 
 -- an index of no entries
-pub record Empty (lasts links : List ℕ) : Type 0 where
-  pub buckets : lasts ≡ replicate buckets 0
-  pub room : links ≡ replicate capacity 0
+pub record Empty (x : Index) : Type 0 where
+  pub none : x.count ≡ 0
+  pub holds : (f : ℕ → ℕ) → Holds f x
 
--- the first k entries lie within the words, no two of them are equal, and they are in the index
-pub record Searchable (s : List ℕ) (start k : ℕ) (lasts links : List ℕ) : Type 0 where
-  pub fit : EntriesFit s start k
-  pub differ : differ_below s k ≡ true
-  pub index : Indexed s k lasts links
+-- there is room for one entry more
+pub record HasRoom (x : Index) : Type 0 where
+  pub few : x.count < capacity
+
+-- the entries in the index lie within the words, and no two of them are equal
+pub record Searchable {A : Type 0} (fits : ℕ → Type 0) (entry : ℕ → A) (bucket : A → ℕ) (same : A → A → Bool) (x : Index) : Type 0 where
+  pub fit : fits x.count
+  pub differ : none_equal same entry x.count ≡ true
+  pub index : Holds (λ i. bucket (entry i)) x
 
 -- whether no two of the first k entries are equal, and then they can be found
-pub record Loaded (r : Bool) (s : List ℕ) (start k : ℕ) (lasts links : List ℕ) : Type 0 where
-  pub is : r ≡ differ_below s k
-  pub ready : r ≡ true → Searchable s start k lasts links
+pub record Loaded {A : Type 0} (r : Bool) (fits : ℕ → Type 0) (entry : ℕ → A) (bucket : A → ℕ) (same : A → A → Bool) (k : ℕ) (x : Index) : Type 0 where
+  pub all : r ≡ true → x.count ≡ k
+  pub ready : r ≡ true → Searchable fits entry bucket same x
+
+-- of the first k entries, the number of the first that is e
+abbrev pub found : {A : Type 0} → (ℕ → A) → (A → A → Bool) → A → ℕ → Option ℕ
+found entry same e k =
+    let i = first (λ j. same (entry j) e) k 0 in
+    cond (ltb i k) (Some i) None

@@ -8,8 +8,7 @@ use native.Mathlib.Omega.{arith}
 use native.Mathlib.Decide.{ℕ_discrete, dec_lt}
 use lib.ListN.{length, get_or, take, replicate, length-set, length-take, length-append, length-replicate, get_or-replicate, get_or-append}
 use lib.Seq.{get_or-append-add, get_or-take, get_or-set_same, get_or-set_other, ext_get_or}
-use Rattle.diagram.specs.declared.placing.Placed.{Placed}
-use Rattle.diagram.specs.declared.placing.Placed.TheVariants.{At, Full}
+use Rattle.std.proofs.Common.{Option, Some, None}
 use Rattle.facts.specs.declared.record.Facts.{Facts}
 use Rattle.facts.specs.Record.{state}
 use Rattle.facts.specs.State.{start}
@@ -18,7 +17,7 @@ use Rattle.inserting.specs.Given.{Taken}
 use Rattle.inserting.specs.Needs.{whole_walk, restored, CanWalkAll, CanAdd}
 use Rattle.inserting.specs.SubjectMeaning.{subject_meaning}
 use Rattle.operations.specs.declared.answer.BuildFault.TheVariants.{NoRoom}
-use Rattle.operations.specs.declared.answer.Built.TheVariants.{Handle}
+use Rattle.std.specs.Prelude.{Ok}
 use Rattle.operations.specs.Operations.{refused, unless_full, added, add_meaning}
 use Rattle.store.specs.Grown.{Agree}
 use Rattle.store.specs.Layout.{heading_length, question_count, used_place, used, with_used, entries_start, cleared_from}
@@ -114,7 +113,7 @@ module _ {limits : Limits} {s source : List ℕ} {subject : Subject} (can : CanW
   pub can_walk : {q : ℕ} (f : Facts) → q ≡ question_count s → state f ≡ start → CanWalk limits s source subject f 1 q
   can_walk f eq e = rw eq (can_begin s source subject can.fit can.is_sound can.named e)
 
-  pub from_start : {q : ℕ} (f : Facts) → q ≡ question_count s → state f ≡ start → {o : Outcome Placed}
+  pub from_start : {q : ℕ} (f : Facts) → q ≡ question_count s → state f ≡ start → {o : Outcome (Option ℕ)}
       → o ≡ walk limits s source subject q 1 (state f) → o ≡ whole_walk limits s source subject
   from_start f eq ef e = e ∙ (λ i. walk limits s source subject (eq i) 1 (ef i))
 
@@ -138,7 +137,7 @@ module _ {limits : Limits} {s source : List ℕ} {subject : Subject} (can : CanA
   goes : GoesOn s (whole_walk limits s source subject)
   goes = walk_goes limits can.fit source subject (question_count s) 1 start s (sound_walkable limits s can.fit can.is_sound) (omega arith) (omega arith)
 
-  module _ {r : Placed} {t : List ℕ} (e : outcome r t ≡ whole_walk limits s source subject) where
+  module _ {r : Option ℕ} {t : List ℕ} (e : outcome r t ≡ whole_walk limits s source subject) where
     left : GoesOn s (outcome r t)
     left = subst (GoesOn s) (sym e) goes
 
@@ -147,14 +146,14 @@ module _ {limits : Limits} {s source : List ℕ} {subject : Subject} (can : CanA
     unfolding added
     adds = ap (unless_full s) (e ∙ walk_inserts store_sound can.given)
 
-    pub added_at : (h : ℕ) → r ≡ At h → outcome (Handle h) t ≡ add_meaning limits s (subject_meaning s source subject)
+    pub added_at : (h : ℕ) → r ≡ Some h → outcome (Ok h) t ≡ add_meaning limits s (subject_meaning s source subject)
     added_at h er = ap (λ a. unless_full s (outcome a t)) (sym er) ∙ adds
 
     module _ {u : ℕ} (eu : u ≡ used s) (same : length t ≡ length s) where
       pub can_restore : entries_start t + 3 * u ≤ length t
       can_restore = omega (arith, questions_agree left.agrees, used_fits store_sound)
 
-      pub full_restored : r ≡ Full → {w : List ℕ} → w ≡ restored t u → refused w NoRoom ≡ add_meaning limits s (subject_meaning s source subject)
+      pub full_restored : r ≡ None → {w : List ℕ} → w ≡ restored t u → refused w NoRoom ≡ add_meaning limits s (subject_meaning s source subject)
       full_restored er ew =
           ap (λ x. refused x NoRoom) (ew ∙ ap (restored t) eu ∙ restored_same s t same left.agrees (used_fits store_sound) store_sound.unused_zero)
           ∙ ap (λ a. unless_full s (outcome a t)) (sym er) ∙ adds

@@ -6,7 +6,7 @@ use mathlib.Core.Bool.{Bool, true, false}
 use mathlib.Core.List.{List, [], ◌∷◌}
 use native.Mathlib.Omega.{arith}
 use native.Mathlib.Decide.{ℕ_discrete}
-use Rattle.diagram.specs.declared.placing.Placed.{Placed}
+use Rattle.std.proofs.Common.{Option}
 use Rattle.diagram.specs.Finish.{finish}
 use Rattle.diagram.specs.Insert.{then_place, insert}
 use Rattle.diagram.specs.Questions.{questions_from, finished_in}
@@ -123,9 +123,9 @@ module _ {limits : Limits} {s source : List ℕ} {subject : Subject} (snd : Soun
         let qs = questions_from s left (k + 1) in
         let y = finish qs (k + 1) (yes_to st q) means in
         let n = finish qs (k + 1) (no_to st q) means in
-        let walks : List ℕ → State → Outcome Placed = λ w. walk limits w source subject left (k + 1) in
-        let no_walked : Equation → ℕ → List ℕ → Outcome Placed = λ p h s₁. then_place (walks s₁ (no_to st p)) (λ hn s₂. place_parts limits s₂ (entry_of k h hn)) in
-        let no_placed : ℕ → List ℕ → Outcome Placed = λ h s₁. then_place (insert limits s₁ n) (λ hn s₂. place_parts limits s₂ (entry_of k h hn)) in
+        let walks : List ℕ → State → Outcome (Option ℕ) = λ w. walk limits w source subject left (k + 1) in
+        let no_walked : Equation → ℕ → List ℕ → Outcome (Option ℕ) = λ p h s₁. then_place (walks s₁ (no_to st p)) (λ hn s₂. place_parts limits s₂ (entry_of k h hn)) in
+        let no_placed : ℕ → List ℕ → Outcome (Option ℕ) = λ h s₁. then_place (insert limits s₁ n) (λ hn s₂. place_parts limits s₂ (entry_of k h hn)) in
         let going_yes : Going s left (k + 1) (fact q true ∷ xs) = record {
           some_fit = yes_free xs q g.some_fit f;
           to_last = omega (arith, g.to_last);

@@ -3,7 +3,7 @@ use Prim.Native.Nat.{ℕ, zero, suc, ◌+◌}
 use mathlib.Core.Path.{◌≡◌, refl, ap, ◌∙◌}
 use mathlib.Core.Bool.{Bool, true}
 use mathlib.Core.List.{List, ◌∷◌}
-use Rattle.diagram.specs.declared.placing.Placed.TheVariants.{At}
+use Rattle.std.proofs.Common.{Some}
 use Rattle.diagram.specs.Finish.{parts, finish}
 use Rattle.diagram.specs.Insert.{then_place, leaf_handle, insert}
 use Rattle.facts.specs.declared.decision.Decision.{Decision}
@@ -25,13 +25,13 @@ use Rattle.inserting.proofs.ValueKnown.{Known}
 -- ---- the steps of a walk
 module _ (limits : Limits) (s source : List ℕ) (subject : Subject) where
   pub walk_always : (left k : ℕ) (st : State) → subject_value s source subject st ≡ Always
-      → walk limits s source subject left k st ≡ outcome (At 1) s
+      → walk limits s source subject left k st ≡ outcome (Some 1) s
   unfolding walk
   walk_always zero k st e = rw (walk, e) refl
   walk_always (suc left) k st e = rw (walk, e) refl
 
   pub walk_never : (left k : ℕ) (st : State) → subject_value s source subject st ≡ Never
-      → walk limits s source subject left k st ≡ outcome (At 0) s
+      → walk limits s source subject left k st ≡ outcome (Some 0) s
   unfolding walk
   walk_never zero k st e = rw (walk, e) refl
   walk_never (suc left) k st e = rw (walk, e) refl
@@ -65,6 +65,6 @@ finish_asks q qs k st means e = rw (finish, e) refl
 
 -- a meaning with one truth wherever the facts hold is added as a leaf
 pub leaf_inserted : (limits : Limits) (qs : List Equation) (k : ℕ) (xs : List Fact) (means : Valuation → Bool) (b : Bool) → free (state_of xs) ≡ true
-    → ((v : Valuation) → Fits xs v → means v ≡ b) → (s : List ℕ) → insert limits s (finish qs k (state_of xs) means) ≡ outcome (At (leaf_handle b)) s
+    → ((v : Valuation) → Fits xs v → means v ≡ b) → (s : List ℕ) → insert limits s (finish qs k (state_of xs) means) ≡ outcome (Some (leaf_handle b)) s
 unfolding insert
 leaf_inserted limits qs k xs means b t e s = ap (insert limits s) (finish_same qs k xs means (λ _. b) t e ∙ finish_constant qs k (state_of xs) b)

@@ -1,6 +1,5 @@
 -- What the code relies on, and no claim.
-use Rattle.std.specs.Prelude.{ℕ, ◌+◌, ◌*◌, ◌≡◌, true, List}
-use Rattle.diagram.specs.declared.placing.Placed.{Placed}
+use Rattle.std.specs.Prelude.{ℕ, ◌+◌, ◌*◌, ◌≡◌, true, List, Option}
 use Rattle.facts.specs.State.{start}
 use Rattle.inserting.specs.Given.{Given}
 use Rattle.store.specs.Layout.{question_count, entries_start, with_used, cleared_from}
@@ -13,7 +12,7 @@ use Rattle.walking.specs.Needs.{Named}
 use Rattle.walking.specs.Walk.{walk}
 
 -- over all questions, with no facts
-abbrev pub whole_walk : Limits → List ℕ → List ℕ → Subject → Outcome Placed
+abbrev pub whole_walk : Limits → List ℕ → List ℕ → Subject → Outcome (Option ℕ)
 whole_walk limits s source subject = walk limits s source subject (question_count s) 1 start
 
 -- so many entries used again, and zeros after them

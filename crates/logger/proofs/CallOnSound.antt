@@ -6,7 +6,7 @@ use mathlib.Core.List.{List, []}
 use mathlib.Core.Option.{Option, none, some}
 use Rattle.operations.specs.declared.answer.BuildFault.{BuildFault}
 use Rattle.operations.specs.declared.answer.BuildFault.TheVariants.{NoHandle, BadTable}
-use Rattle.operations.specs.declared.answer.Built.{Built}
+use Rattle.operations.specs.Built.{Built}
 use Rattle.operations.specs.Handles.{Call, build, negate, join, choose, answer_to, rule_of, rule_of_call}
 use Rattle.operations.specs.Operations as operation
 use Rattle.operations.specs.Operations.{refused, if_handles, if_taken, add_meaning}

@@ -13,9 +13,8 @@ use Rattle.diagram.specs.Questions.{finished_in}
 use Rattle.logger.specs.AnswersTo.{was_accepted}
 use Rattle.operations.specs.declared.answer.BuildFault.{BuildFault}
 use Rattle.operations.specs.declared.answer.BuildFault.TheVariants.{NotSound, NoHandle, BadTable, NoRoom}
-use Rattle.operations.specs.declared.answer.Built.{Built}
-use Rattle.operations.specs.declared.answer.Built.TheVariants.{Handle, Refused}
-use Rattle.operations.specs.Built.{build_fault_number, built_number, built_result}
+use Rattle.operations.specs.Built.{Built, build_fault_number, built_number, built_result}
+use Rattle.std.specs.Prelude.{Ok, Err}
 use Rattle.operations.specs.Handles.{Call, build, negate, join, choose, answer_to, rule_of, rule_of_call}
 use Rattle.operations.specs.Operations.{refused, added, add_meaning}
 use Rattle.store.specs.Layout.{used, leaves, is_handle}
@@ -37,11 +36,11 @@ use Rattle.logger.proofs.InsertSame.{insert_same}
 use Rattle.logger.proofs.SameEntries.{SameEntries}
 
 -- ---- accepted or not, by the number
-handle_accepted : (h : ℕ) → was_accepted (Handle h) ≡ true
+handle_accepted : (h : ℕ) → was_accepted (Ok h) ≡ true
 unfolding was_accepted
 handle_accepted h = refl
 
-refusal_not : (f : BuildFault) → was_accepted (Refused f) ≡ false
+refusal_not : (f : BuildFault) → was_accepted (Err f) ≡ false
 unfolding was_accepted
 refusal_not NotSound = refl
 refusal_not NoHandle = refl
@@ -53,7 +52,7 @@ refusal_not (BadTable table.OutOfLimits) = refl
 refusal_not (BadTable table.NotListed) = refl
 refusal_not NoRoom = refl
 
-one_alone : (h : ℕ) (f : BuildFault) → was_accepted (Handle h) ≡ was_accepted (Refused f) → ⊥
+one_alone : (h : ℕ) (f : BuildFault) → was_accepted (Ok h) ≡ was_accepted (Err f) → ⊥
 one_alone h f e = true≢false (sym (handle_accepted h) ∙ e ∙ refusal_not f)
 
 -- ---- what is claimed of two outcomes
@@ -62,31 +61,31 @@ pub record AnsweredSame {A : Type 0} (of : Built → A) (o o' : Outcome Built) :
   pub same : was_accepted o.answer ≡ was_accepted o'.answer → (of o.answer ≡ of o'.answer) × SameEntries o.words o'.words
 
 module _ {A : Type 0} (of : Built → A) {s s' : List ℕ} where
-  accepted_same : (g h : ℕ) → g ≡ h → SameEntries s s' → AnsweredSame of (outcome (Handle g) s) (outcome (Handle h) s')
-  accepted_same g h d same = record { same = λ _. (ap (λ x. of (Handle x)) d, same) }
+  accepted_same : (g h : ℕ) → g ≡ h → SameEntries s s' → AnsweredSame of (outcome (Ok g) s) (outcome (Ok h) s')
+  accepted_same g h d same = record { same = λ _. (ap (λ x. of (Ok x)) d, same) }
 
-  refused_same : (f g : BuildFault) → of (Refused f) ≡ of (Refused g) → SameEntries s s' → AnsweredSame of (refused s f) (refused s' g)
+  refused_same : (f g : BuildFault) → of (Err f) ≡ of (Err g) → SameEntries s s' → AnsweredSame of (refused s f) (refused s' g)
   refused_same f g d same = record { same = λ _. (d, same) }
 
-  first_alone : (h : ℕ) (f : BuildFault) → AnsweredSame of (outcome (Handle h) s) (refused s' f)
+  first_alone : (h : ℕ) (f : BuildFault) → AnsweredSame of (outcome (Ok h) s) (refused s' f)
   first_alone h f = record { same = λ e. absurd (one_alone h f e) }
 
-  second_alone : (h : ℕ) (f : BuildFault) → AnsweredSame of (refused s f) (outcome (Handle h) s')
+  second_alone : (h : ℕ) (f : BuildFault) → AnsweredSame of (refused s f) (outcome (Ok h) s')
   second_alone h f = record { same = λ e. absurd (one_alone h f (sym e)) }
 
 -- ---- the diagram is added
 module _ {A : Type 0} (of : Built → A) (limits limits' : Limits) {s s' : List ℕ} (same : SameEntries s s') where
   added_same : (t : Tree) → AnsweredSame of (added limits s t) (added limits' s' t)
   added_same t = added_cases limits s t (λ o. AnsweredSame of o (added limits' s' t))
-      (λ h e. added_cases limits' s' t (AnsweredSame of (outcome (Handle h) (insert limits s t).words))
+      (λ h e. added_cases limits' s' t (AnsweredSame of (outcome (Ok h) (insert limits s t).words))
       (λ h' e'. let both = (insert_same limits limits' t same).same h h' e e' in accepted_same of h h' both.0 both.1)
       (first_alone of h NoRoom))
       (added_cases limits' s' t (AnsweredSame of (refused s NoRoom)) (λ h' _. second_alone of h' NoRoom) (refused_same of NoRoom NoRoom refl same))
 
-  added_refused : (t : Tree) (f : BuildFault) → of (Refused NoRoom) ≡ of (Refused f) → AnsweredSame of (added limits s t) (refused s' f)
+  added_refused : (t : Tree) (f : BuildFault) → of (Err NoRoom) ≡ of (Err f) → AnsweredSame of (added limits s t) (refused s' f)
   added_refused t f d = added_cases limits s t (λ o. AnsweredSame of o (refused s' f)) (λ h _. first_alone of h f) (refused_same of NoRoom f d same)
 
-  refused_added : (t : Tree) (f : BuildFault) → of (Refused f) ≡ of (Refused NoRoom) → AnsweredSame of (refused s f) (added limits' s' t)
+  refused_added : (t : Tree) (f : BuildFault) → of (Err f) ≡ of (Err NoRoom) → AnsweredSame of (refused s f) (added limits' s' t)
   refused_added t f d = added_cases limits' s' t (AnsweredSame of (refused s f)) (λ h _. second_alone of h f) (refused_same of f NoRoom d same)
 
 -- ---- the rule
@@ -121,9 +120,9 @@ module _ {limits limits' : Limits} {s s' : List ℕ} (snd : Sound limits s) (snd
   -- ---- the call
   -- a claim about refusals of whatever kind, or about those of one fault
   module _ {A : Type 0} (of : Built → A) (c : Call)
-      (refusals : (f f' : BuildFault) → call_fault limits s c ≡ some f → call_fault limits' s' c ≡ some f' → of (Refused f) ≡ of (Refused f'))
-      (full_first : (f : BuildFault) → call_fault limits s c ≡ none → call_fault limits' s' c ≡ some f → of (Refused NoRoom) ≡ of (Refused f))
-      (full_second : (f : BuildFault) → call_fault limits s c ≡ some f → call_fault limits' s' c ≡ none → of (Refused f) ≡ of (Refused NoRoom)) where
+      (refusals : (f f' : BuildFault) → call_fault limits s c ≡ some f → call_fault limits' s' c ≡ some f' → of (Err f) ≡ of (Err f'))
+      (full_first : (f : BuildFault) → call_fault limits s c ≡ none → call_fault limits' s' c ≡ some f → of (Err NoRoom) ≡ of (Err f))
+      (full_second : (f : BuildFault) → call_fault limits s c ≡ some f → call_fault limits' s' c ≡ none → of (Err f) ≡ of (Err NoRoom)) where
     by_faults : (x x' : Option BuildFault) → call_fault limits s c ≡ x → call_fault limits' s' c ≡ x'
         → AnsweredSame of (unless_fault s x (add_meaning limits s (rule_of_call [] s c))) (unless_fault s' x' (add_meaning limits' s' (rule_of_call [] s' c)))
     by_faults none none e e' =

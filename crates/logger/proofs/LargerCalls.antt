@@ -9,12 +9,11 @@ use native.Mathlib.Omega.{arith}
 use borrow.Author.Tests.{lt-ltb, le-ltb, eq-eqb, ne_eqb}
 use lib.Dec.{ltb}
 use lib.ListN.{length}
-use Rattle.diagram.specs.declared.placing.Placed.{Placed}
-use Rattle.diagram.specs.declared.placing.Placed.TheVariants.{At, Full}
+use Rattle.std.proofs.Common.{Option, Some, None}
 use Rattle.diagram.specs.Insert.{add_entry, place_entry, then_place, insert}
 use Rattle.diagram.specs.Questions.{finished_in}
 use Rattle.logger.specs.SmallerLimits.{Smaller}
-use Rattle.operations.specs.declared.answer.Built.TheVariants.{Handle}
+use Rattle.std.specs.Prelude.{Ok}
 use Rattle.operations.specs.Handles.{Call, build, negate, join, choose, answer_to, rule_of_call}
 use Rattle.operations.specs.Operations.{unless_full, added, add_meaning}
 use Rattle.store.specs.declared.entries.Entry.{Entry}
@@ -74,45 +73,45 @@ module _ {limits larger : Limits} (small : Smaller limits larger) (s : List ℕ)
   test_larger (choose a b c) t = ap of_handles t
 
 -- ---- diagrams
-then_at : {o : Outcome Placed} (next : ℕ → List ℕ → Outcome Placed) {g : ℕ} → o.answer ≡ At g → then_place o next ≡ next g o.words
+then_at : {o : Outcome (Option ℕ)} (next : ℕ → List ℕ → Outcome (Option ℕ)) {g : ℕ} → o.answer ≡ Some g → then_place o next ≡ next g o.words
 then_at next e = rw e
 
 module _ {limits larger : Limits} (small : Smaller limits larger) where
-  place_larger : (s : List ℕ) (e : Entry) (h : ℕ) → (place_entry limits s e).answer ≡ At h → place_entry larger s e ≡ place_entry limits s e
+  place_larger : (s : List ℕ) (e : Entry) (h : ℕ) → (place_entry limits s e).answer ≡ Some h → place_entry larger s e ≡ place_entry limits s e
   unfolding place_entry add_entry
   place_larger s e h =
       let i : ℕ = find_entry s (used s) e in
-      let new : Outcome Placed = outcome (At (used s + leaves)) (with_entry s e) in
-      let found : Outcome Placed = outcome (At (i + leaves)) s in
-      by_test (λ t. (cond t found (add_entry limits s e)).answer ≡ At h → cond t found (add_entry larger s e) ≡ cond t found (add_entry limits s e)) (ltb i (used s))
+      let new : Outcome (Option ℕ) = outcome (Some (used s + leaves)) (with_entry s e) in
+      let found : Outcome (Option ℕ) = outcome (Some (i + leaves)) s in
+      by_test (λ t. (cond t found (add_entry limits s e)).answer ≡ Some h → cond t found (add_entry larger s e) ≡ cond t found (add_entry limits s e)) (ltb i (used s))
       (λ _ _. refl)
-      (λ _. by_lt (λ t. (cond t new (outcome Full s)).answer ≡ At h → add_entry larger s e ≡ cond t new (outcome Full s)) (used s) (room limits s)
+      (λ _. by_lt (λ t. (cond t new (outcome None s)).answer ≡ Some h → add_entry larger s e ≡ cond t new (outcome None s)) (used s) (room limits s)
       (λ l _. rw (add_entry, lt-ltb (used s) (room larger s) (omega (arith, small.entries_in))))
       (λ _ d. absurd (not_full d)))
 
-  module _ {o o' : Outcome Placed} (next next' : ℕ → List ℕ → Outcome Placed) (h : ℕ) where
-    then_larger : ((g : ℕ) → o.answer ≡ At g → o' ≡ o) → ((g : ℕ) (w : List ℕ) → (next g w).answer ≡ At h → next' g w ≡ next g w)
-        → (then_place o next).answer ≡ At h → then_place o' next' ≡ then_place o next
-    then_larger first later = then_cases (λ x. x.answer ≡ At h → then_place o' next' ≡ x) o next
+  module _ {o o' : Outcome (Option ℕ)} (next next' : ℕ → List ℕ → Outcome (Option ℕ)) (h : ℕ) where
+    then_larger : ((g : ℕ) → o.answer ≡ Some g → o' ≡ o) → ((g : ℕ) (w : List ℕ) → (next g w).answer ≡ Some h → next' g w ≡ next g w)
+        → (then_place o next).answer ≡ Some h → then_place o' next' ≡ then_place o next
+    then_larger first later = then_cases (λ x. x.answer ≡ Some h → then_place o' next' ≡ x) o next
         (λ g e d. ap (λ x. then_place x next') (first g e) ∙ then_at next' e ∙ later g o.words d) (λ _ d. absurd (not_full d))
 
-  insert_larger : (t : Tree) (s : List ℕ) (h : ℕ) → (insert limits s t).answer ≡ At h → insert larger s t ≡ insert limits s t
+  insert_larger : (t : Tree) (s : List ℕ) (h : ℕ) → (insert limits s t).answer ≡ Some h → insert larger s t ≡ insert limits s t
   unfolding insert
   insert_larger (leaf b) s h = λ _. refl
   insert_larger (node k y n) s h =
       then_larger (after_yes limits k n) (after_yes larger k n) h (insert_larger y s) (λ hy w.
       then_larger (after_no limits k hy) (after_no larger k hy) h (insert_larger n w) (λ hn w'. place_larger w' (entry_of k hy hn) h))
 
-  added_at : (s : List ℕ) (t : Tree) (g : ℕ) → (insert limits s t).answer ≡ At g → added larger s t ≡ outcome (Handle g) (insert limits s t).words
+  added_at : (s : List ℕ) (t : Tree) (g : ℕ) → (insert limits s t).answer ≡ Some g → added larger s t ≡ outcome (Ok g) (insert limits s t).words
   unfolding added
   added_at s t g e = ap (unless_full s) (insert_larger t s g e) ∙ rw e
 
-  added_larger : (s : List ℕ) (t : Tree) (h : ℕ) → (added limits s t).answer ≡ Handle h → added larger s t ≡ added limits s t
-  added_larger s t h = added_cases limits s t (λ o. o.answer ≡ Handle h → added larger s t ≡ o) (λ g e _. added_at s t g e) (λ e. absurd (not_both e refl))
+  added_larger : (s : List ℕ) (t : Tree) (h : ℕ) → (added limits s t).answer ≡ Ok h → added larger s t ≡ added limits s t
+  added_larger s t h = added_cases limits s t (λ o. o.answer ≡ Ok h → added larger s t ≡ o) (λ g e _. added_at s t g e) (λ e. absurd (not_both e refl))
 
   -- ---- the call
-  pub smaller_calls : (s : List ℕ) (c : Call) (h : ℕ) → (answer_to limits s c).answer ≡ Handle h → answer_to larger s c ≡ answer_to limits s c
-  smaller_calls s c h = call_cases limits s (λ o. o.answer ≡ Handle h → answer_to larger s c ≡ o)
+  pub smaller_calls : (s : List ℕ) (c : Call) (h : ℕ) → (answer_to limits s c).answer ≡ Ok h → answer_to larger s c ≡ answer_to limits s c
+  smaller_calls s c h = call_cases limits s (λ o. o.answer ≡ Ok h → answer_to larger s c ≡ o)
       (λ f _ e. absurd (not_both e refl)) c
       (λ is t e.
       let rule = rule_of_call [] s c in

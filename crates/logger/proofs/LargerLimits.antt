@@ -7,7 +7,7 @@ use native.Mathlib.Omega.{arith}
 use borrow.Author.Tests.{le-leb}
 use lib.ListN.{length}
 use Rattle.logger.specs.SmallerLimits.{Smaller}
-use Rattle.store.specs.declared.answer.Opened.TheVariants.{Accepted}
+use Rattle.std.specs.Prelude.{Ok}
 use Rattle.store.specs.Layout.{field_count, question_count, list_words, question_in}
 use Rattle.store.specs.Open.{question_fault, list_fault, opening, opened, open_store}
 use Rattle.store.specs.Sound.{sound}
@@ -17,8 +17,7 @@ use Rattle.terms.specs.declared.term.Term.{Term}
 use Rattle.terms.specs.Limits.{terms_within}
 use Rattle.terms.specs.Order.{Order, order_of, order_named}
 use Rattle.terms.specs.Words.{allows}
-use Rattle.store.proofs.OpenAccepts.{accepts, accepted_opening, both}
-use Rattle.store.proofs.OpenWays.{known_order, accepted}
+use Rattle.store.proofs.OpenAccepts.{accepts, accepts_opens, accepted_opening, both}
 use Rattle.store.proofs.SoundFacts.{sound_says, sound_from}
 use Rattle.store.proofs.SoundList.{accepted_allows}
 use Rattle.store.proofs.Tests.{first_passes, second_passes}
@@ -39,7 +38,7 @@ module _ {limits larger : Limits} (small : Smaller limits larger) (n : ℕ) wher
 
   -- ---- lists
   module _ (order : Order) (words : List ℕ) where
-    question_accepted : (k : ℕ) → question_fault order (terms_within limits n) words k ≡ Accepted → question_fault order (terms_within larger n) words k ≡ Accepted
+    question_accepted : (k : ℕ) → question_fault order (terms_within limits n) words k ≡ Ok tt → question_fault order (terms_within larger n) words k ≡ Ok tt
     unfolding question_fault
     question_accepted k e =
         let q = question_in words k in
@@ -48,7 +47,7 @@ module _ {limits larger : Limits} (small : Smaller limits larger) (n : ℕ) wher
         let right = allows (terms_within limits n) q.right in
         rw (term_allowed q.left (first_passes left right both), term_allowed q.right (second_passes left right both)) (rw both at e)
 
-    list_accepted : (left k : ℕ) → list_fault order (terms_within limits n) words left k ≡ Accepted → list_fault order (terms_within larger n) words left k ≡ Accepted
+    list_accepted : (left k : ℕ) → list_fault order (terms_within limits n) words left k ≡ Ok tt → list_fault order (terms_within larger n) words left k ≡ Ok tt
     unfolding list_fault
     list_accepted zero k e = refl
     list_accepted (suc left) k e =
@@ -77,15 +76,21 @@ module _ {limits larger : Limits} (small : Smaller limits larger) where
 
   -- ---- openings
   module _ (n order : ℕ) (list : List ℕ) where
-    pub opening_larger : (words : ℕ) → opening limits n order list words ≡ Accepted → opening larger n order list words ≡ Accepted
+    pub opening_larger : (words : ℕ) → opening limits n order list words ≡ Ok tt → opening larger n order list words ≡ Ok tt
     opening_larger words e =
         let a = accepts limits n order list words e in
-        sym (known_order larger n order list words (omega (arith, a.fields, small.fields_in)) refl (ap order_named a.order_is ∙ number_names a.known)
-        (accepted a.known larger n list words (omega (arith, a.even)) (omega (arith, a.few, small.questions_in)) refl refl
-        (list_accepted small n (order_of a.known) list (length list / 2) 0 a.faultless) a.fits))
+        accepts_opens larger n order list words (record {
+          fields = omega (arith, a.fields, small.fields_in);
+          known = a.known;
+          order_is = a.order_is;
+          even = a.even;
+          few = omega (arith, a.few, small.questions_in);
+          faultless = list_accepted small n (order_of a.known) list (length list / 2) 0 a.faultless;
+          fits = a.fits;
+        })
 
     -- An opening that is accepted within the smaller limits is accepted within the larger, and writes the same words.
-    pub smaller_opens : (s : List ℕ) → (open_store limits n order list s).answer ≡ Accepted → open_store larger n order list s ≡ open_store limits n order list s
+    pub smaller_opens : (s : List ℕ) → (open_store limits n order list s).answer ≡ Ok tt → open_store larger n order list s ≡ open_store limits n order list s
     unfolding open_store
     smaller_opens s e =
         let is = accepted_opening limits n order list s e in

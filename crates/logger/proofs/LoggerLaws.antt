@@ -15,13 +15,12 @@ use Rattle.logger.specs.Beyond.{Beyond}
 use Rattle.logger.specs.MixedCalls.{by_either, run_within, EachSmaller}
 use Rattle.logger.specs.AnswersTo.{answers_to}
 use Rattle.operations.specs.declared.answer.BuildFault.TheVariants.{NotSound, NoRoom}
-use Rattle.operations.specs.declared.answer.Built.TheVariants.{Handle, Refused}
+use Rattle.std.specs.Prelude.{Ok, Err}
 use Rattle.operations.specs.BooleanLaws.{Formula, BooleanLaw, Worked}
 use Rattle.operations.specs.Built.{built_number}
 use Rattle.operations.specs.Handles as handles
 use Rattle.operations.specs.Handles.{Call, Books, opened_books, run, HandleLaw}
 use Rattle.operations.specs.Operations.{refused, build}
-use Rattle.store.specs.declared.answer.Opened.TheVariants.{Accepted}
 use Rattle.store.specs.Layout.{used, room}
 use Rattle.store.specs.Meaning.{meaning}
 use Rattle.store.specs.Open.{opening, opened_words, open_store}
@@ -45,7 +44,7 @@ use Rattle.logger.proofs.SameCalls.{same_calls, same_numbers, same_words}
 
 -- ---- the logger's store by itself
 -- any n, order and list, and a store of any length, that the logger's opening accepts
-module _ (n order : ℕ) (list s : List ℕ) (e : opening logger_limits n order list (length s) ≡ Accepted) where
+module _ (n order : ℕ) (list s : List ℕ) (e : opening logger_limits n order list (length s) ≡ Ok tt) where
   pub logger_opened_sound : sound logger_limits (opened_words n order list (length s)) ≡ true
   logger_opened_sound = opened_sound logger_limits n order list s e
 
@@ -59,12 +58,12 @@ module _ (n order : ℕ) (list s : List ℕ) (e : opening logger_limits n order 
 
 module _ (s table : List ℕ) where
   -- the handle means what the table's last row does
-  pub logger_build_means : (h : ℕ) → (build logger_limits s table).answer ≡ Handle h → (v : Valuation) → meaning (build logger_limits s table).words h v ≡ rule_meaning table v
+  pub logger_build_means : (h : ℕ) → (build logger_limits s table).answer ≡ Ok h → (v : Valuation) → meaning (build logger_limits s table).words h v ≡ rule_meaning table v
   logger_build_means = build_means logger_limits s table
 
   -- "51 above 200 entries": of a sound store and a table without a fault, exactly if the entries used and the new ones exceed the room
   pub logger_full_exactly : sound logger_limits s ≡ true → table_fault logger_limits s table ≡ none
-      → ((build logger_limits s table).answer ≡ Refused NoRoom) ↔ (room logger_limits s < used s + new_count s (finished_in s (rule_meaning table)))
+      → ((build logger_limits s table).answer ≡ Err NoRoom) ↔ (room logger_limits s < used s + new_count s (finished_in s (rule_meaning table)))
   logger_full_exactly is taken =
       let snd = sound_says logger_limits s is in
       rw (call_on_sound snd (handles.build table), taken) (full_exactly snd (rule_meaning table))
@@ -83,7 +82,7 @@ logger_smaller = record { fields_in = omega arith; steps_in = omega arith; quest
 
 -- "After the same accepted opening, the same builds in the same order, nothing else writing, each accepted by both or by neither, give the same used entries and
 -- handles.": any n, order and list, lent stores of any two lengths, and any list of rule tables, any words at all
-module _ (n order : ℕ) (list s s' : List ℕ) (e : opening logger_limits n order list (length s) ≡ Accepted) (e' : opening store_limits n order list (length s') ≡ Accepted)
+module _ (n order : ℕ) (list s s' : List ℕ) (e : opening logger_limits n order list (length s) ≡ Ok tt) (e' : opening store_limits n order list (length s') ≡ Ok tt)
     (tables : List (List ℕ)) where
   abbrev logger_books : Books
   logger_books = opened_books n order list (length s)
@@ -113,16 +112,16 @@ pub logger_store_sound : (s : List ℕ) → sound logger_limits s ≡ true → s
 logger_store_sound = smaller_sound logger_smaller
 
 -- the logger's opening, where it is accepted, is the institute's,
-pub logger_open_same : (n order : ℕ) (list s : List ℕ) → (open_store logger_limits n order list s).answer ≡ Accepted
+pub logger_open_same : (n order : ℕ) (list s : List ℕ) → (open_store logger_limits n order list s).answer ≡ Ok tt
     → open_store store_limits n order list s ≡ open_store logger_limits n order list s
 logger_open_same = smaller_opens logger_smaller
 
 -- and so is its build: the same handle and the same words.
-pub logger_build_same : (s table : List ℕ) (h : ℕ) → (build logger_limits s table).answer ≡ Handle h → build store_limits s table ≡ build logger_limits s table
+pub logger_build_same : (s table : List ℕ) (h : ℕ) → (build logger_limits s table).answer ≡ Ok h → build store_limits s table ≡ build logger_limits s table
 logger_build_same s table = smaller_calls logger_smaller s (handles.build table)
 
 -- The handle law covers the logger's calls and the institute's on the logger's store, in whatever order they come, accepted or refused.
-pub logger_mixed_law : (n order : ℕ) (list s : List ℕ) → opening logger_limits n order list (length s) ≡ Accepted → (calls : List (Call ⊎ Call))
+pub logger_mixed_law : (n order : ℕ) (list s : List ℕ) → opening logger_limits n order list (length s) ≡ Ok tt → (calls : List (Call ⊎ Call))
     → HandleLaw (run_within (opened_books n order list (length s)) (map by_either calls)).ledger
 logger_mixed_law n order list s e calls = mixed_law logger_limits store_limits logger_smaller n order list s e (map by_either calls) (each calls)
   where

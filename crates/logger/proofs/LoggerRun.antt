@@ -11,7 +11,7 @@ use Rattle.logger.specs.AnswersTo.{answers_to, was_accepted}
 use Rattle.operations.specs.Built.{built_number, built_result}
 use Rattle.operations.specs.Handles.{Call, build, Books, opened_books, run}
 use Rattle.operations.specs.ThreeEqual.{three_equal, last_equal, outer_equal, not_outer, after_case_6}
-use Rattle.store.specs.declared.answer.Opened.TheVariants.{Accepted}
+use Rattle.std.specs.Prelude.{Ok}
 use Rattle.store.specs.Layout.{used}
 use Rattle.store.specs.Open.{opening}
 use Rattle.terms.specs.declared.limits.Limits.{Limits}
@@ -32,7 +32,7 @@ three_fields order words = opened_books 3 order three_equal words
 -- the numbers, the results and the entries used after builds in such a store, with order 0
 abbrev Builds : Limits → ℕ → List Call → List ℕ → List ℕ → ℕ → Type 0
 Builds limits words calls numbers results entries =
-    (opening limits 3 0 three_equal words ≡ Accepted)
+    (opening limits 3 0 three_equal words ≡ Ok tt)
     × (map built_number (answers_to limits (three_fields 0 words) calls) ≡ numbers)
     × (map built_result (answers_to limits (three_fields 0 words) calls) ≡ results)
     × (used (run limits (three_fields 0 words) calls).words ≡ entries)
@@ -50,8 +50,8 @@ logger_run = ((refl, refl, refl, refl), (refl, refl, refl, refl), refl, refl)
 -- In either order, and with a longer store of the institute's: both are opened, and what `same_builds` asks for holds.
 abbrev OpenedAndAlike : ℕ → Type 0
 OpenedAndAlike order =
-    (opening logger_limits 3 order three_equal 22 ≡ Accepted)
-    × (opening store_limits 3 order three_equal 28 ≡ Accepted)
+    (opening logger_limits 3 order three_equal 22 ≡ Ok tt)
+    × (opening store_limits 3 order three_equal 28 ≡ Ok tt)
     × AcceptedAlike logger_limits store_limits (three_fields order 22) (three_fields order 28) three_builds
 
 pub logger_run_alike : (order : ListOrder) → OpenedAndAlike (order_number order)

@@ -6,11 +6,10 @@ use mathlib.Core.List.{List, [], ◌∷◌, map}
 use lib.ListN.{length}
 use Rattle.logger.specs.MixedCalls.{CallWithin, within, run_within, EachSmaller}
 use Rattle.logger.specs.SmallerLimits.{Smaller}
-use Rattle.operations.specs.declared.answer.Built.{Built}
-use Rattle.operations.specs.declared.answer.Built.TheVariants.{Handle, Refused}
+use Rattle.operations.specs.Built.{Built}
+use Rattle.std.specs.Prelude.{Ok, Err}
 use Rattle.operations.specs.Handles.{Call, answer_to, Books, opened_books, after, run, HandleLaw}
 use Rattle.operations.specs.Kept.{Kept}
-use Rattle.store.specs.declared.answer.Opened.TheVariants.{Accepted}
 use Rattle.store.specs.Open.{opening}
 use Rattle.terms.specs.declared.limits.Limits.{Limits}
 use Rattle.operations.proofs.HandleLaw.{kept_after, kept_law, opened_kept}
@@ -28,8 +27,8 @@ kept_within : {limits larger : Limits} → Smaller limits larger → {b : Books}
 kept_within {limits} {larger} small {b} k c = go (answer_to limits b.words c).answer refl
   where
     go : (a : Built) → (answer_to limits b.words c).answer ≡ a → Kept larger (after limits b c)
-    go (Handle h) e = rw (← smaller_calls small b.words c h e) (kept_after k c)
-    go (Refused f) e = rw (refused_unchanged limits b.words c f e, e) k
+    go (Ok h) e = rw (← smaller_calls small b.words c h e) (kept_after k c)
+    go (Err f) e = rw (refused_unchanged limits b.words c f e, e) k
 
 kept_run_within : {larger : Limits} {b : Books} → Kept larger b → (calls : List CallWithin) → EachSmaller larger calls → Kept larger (run_within b calls)
 unfolding run_within
@@ -38,7 +37,7 @@ kept_run_within {larger = larger} {b = b} k (c ∷ cs) small = kept_run_within {
 
 -- "any two pairs have equal handles exactly if their rules are alike in truth under every choice of counts", after an opening and calls within any limits that
 -- are no larger than these
-pub mixed_law : (limits larger : Limits) → Smaller limits larger → (n order : ℕ) (list s : List ℕ) → opening limits n order list (length s) ≡ Accepted
+pub mixed_law : (limits larger : Limits) → Smaller limits larger → (n order : ℕ) (list s : List ℕ) → opening limits n order list (length s) ≡ Ok tt
     → (calls : List CallWithin) → EachSmaller larger calls → HandleLaw (run_within (opened_books n order list (length s)) calls).ledger
 mixed_law limits larger small n order list s e calls each =
     kept_law (kept_run_within (opened_kept larger n order list s (opening_larger small n order list (length s) e)) calls each)

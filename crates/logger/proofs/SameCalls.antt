@@ -9,10 +9,9 @@ use lib.ListN.{length, get_or, drop, replicate, length-take, length-drop, get_or
 use lib.Seq.{get_or-take, get_or-drop, ext_get_or}
 use Rattle.logger.specs.SameStores.{entry_words, SameStores, AcceptedAlike, SameRuns}
 use Rattle.logger.specs.AnswersTo.{answers_to}
-use Rattle.operations.specs.declared.answer.Built.{Built}
-use Rattle.operations.specs.Built.{built_number, built_result}
+use Rattle.operations.specs.Built.{Built, built_number, built_result}
 use Rattle.operations.specs.Handles.{Call, answer_to, Books, opened_books, after, run}
-use Rattle.store.specs.declared.answer.Opened.TheVariants.{Accepted}
+use Rattle.std.specs.Prelude.{Ok}
 use Rattle.store.specs.Layout.{heading_length, used_place, used, entries_start}
 use Rattle.store.specs.Open.{opening, opened_words}
 use Rattle.store.specs.SoundParts.{Sound}
@@ -117,7 +116,7 @@ words_same {b = b} {b'} a long =
 -- ---- the theorem
 -- any n, order and list, lent stores of any two lengths, opened at any two limits
 module _ (limits limits' : Limits) (n order : ℕ) (list s s' : List ℕ)
-    (e : opening limits n order list (length s) ≡ Accepted) (e' : opening limits' n order list (length s') ≡ Accepted) where
+    (e : opening limits n order list (length s) ≡ Ok tt) (e' : opening limits' n order list (length s') ≡ Ok tt) where
   abbrev books : Books
   books = opened_books n order list (length s)
 

@@ -1,7 +1,6 @@
 -- The answers to a list of calls, one after the other.
 use Rattle.std.specs.Prelude.{Bool, List, [], ◌∷◌, eqb}
-use Rattle.operations.specs.declared.answer.Built.{Built}
-use Rattle.operations.specs.Built.{built_number}
+use Rattle.operations.specs.Built.{Built, built_number}
 use Rattle.operations.specs.Handles.{Call, answer_to, Books, after}
 use Rattle.terms.specs.declared.limits.Limits.{Limits}
 

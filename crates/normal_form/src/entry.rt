@@ -1,5 +1,5 @@
 // An entry of a table: the term words of its equation, and the handles of its yes part and its no part.
-#[derive(Clone, Copy)]
+#[derive(Clone, Copy, PartialEq, Eq)]
 pub struct Entry {
     pub left: u32,
     pub right: u32,

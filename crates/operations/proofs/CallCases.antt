@@ -8,7 +8,7 @@ use mathlib.Core.Option.{Option, none, some}
 use native.Mathlib.Omega.{arith}
 use Rattle.operations.specs.declared.answer.BuildFault.{BuildFault}
 use Rattle.operations.specs.declared.answer.BuildFault.TheVariants.{NotSound, NoHandle, BadTable}
-use Rattle.operations.specs.declared.answer.Built.{Built}
+use Rattle.operations.specs.Built.{Built}
 use Rattle.operations.specs.Handles.{Call, build, negate, join, choose, answer_to, rule_of, rule_of_call}
 use Rattle.operations.specs.Operations as operation
 use Rattle.operations.specs.Operations.{refused, if_sound, if_handles, if_taken, add_meaning}

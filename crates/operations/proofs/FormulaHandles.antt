@@ -5,12 +5,11 @@ use mathlib.Core.Path.{◌≡◌, sym, ap, ap₂, ◌∙◌}
 use mathlib.Core.Bool.{cond, not, ◌&&◌}
 use mathlib.Core.List.{List}
 use lib.ListN.{length}
-use Rattle.operations.specs.declared.answer.Built.TheVariants.{Handle}
+use Rattle.std.specs.Prelude.{Ok}
 use Rattle.operations.specs.BooleanLaws.{Formula, formula_truth, BooleanLaw, Worked, is_letter, is_never, is_always, is_not, is_and, is_if, meanwhile}
 use Rattle.operations.specs.Handles.{Call, negate, join, choose, answer_to, Rule, pair, rule_of, rule_of_call, Books, opened_books, after, run}
 use Rattle.operations.specs.Kept.{Kept}
 use Rattle.operations.specs.Stands.{Stands}
-use Rattle.store.specs.declared.answer.Opened.TheVariants.{Accepted}
 use Rattle.store.specs.Meaning.{meaning}
 use Rattle.store.specs.Open.{opening}
 use Rattle.terms.specs.declared.limits.Limits.{Limits}
@@ -27,7 +26,7 @@ record Works (limits : Limits) (rule : Rule) (h : ℕ) (b : Books) : Type 0 wher
   stands : Stands b.words h rule
 
 -- an accepted call for a meaning
-call_works : {limits : Limits} {b : Books} → Kept limits b → (c : Call) (h : ℕ) → (answer_to limits b.words c).answer ≡ Handle h
+call_works : {limits : Limits} {b : Books} → Kept limits b → (c : Call) (h : ℕ) → (answer_to limits b.words c).answer ≡ Ok h
     → {rule : Rule} → ((v : Valuation) → rule_of_call b.ledger b.words c v ≡ rule v) → Works limits rule h (after limits b c)
 call_works k c h e alike = record { kept = kept_after k c; stands = stands_alike alike ((call_answered k c).stands h e) }
 
@@ -66,7 +65,7 @@ module _ {limits : Limits} {letters : ℕ → ℕ} {start : Books} (kept_start :
       (stands_exact p.kept.sound p.stands q.stands).1 (λ v. law (λ x. meaning start.words (letters x) v))
 
 -- Worked out after any list of calls on a store that open has just accepted.
-pub boolean_law : (limits : Limits) (n order : ℕ) (list s : List ℕ) → opening limits n order list (length s) ≡ Accepted → (calls : List Call)
+pub boolean_law : (limits : Limits) (n order : ℕ) (list s : List ℕ) → opening limits n order list (length s) ≡ Ok tt → (calls : List Call)
     → (letters : ℕ → ℕ) (f g : Formula) → BooleanLaw f g → (h k : ℕ) (b : Books)
     → Worked limits letters (run limits (opened_books n order list (length s)) calls) f h b
     → Worked limits letters (run limits (opened_books n order list (length s)) calls) g k b

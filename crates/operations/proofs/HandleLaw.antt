@@ -10,7 +10,7 @@ use Rattle.operations.specs.Handles.{Call, build, negate, join, choose, answer_t
 use Rattle.operations.specs.Kept.{AllStand, Kept}
 use Rattle.operations.specs.Rests.{Rests}
 use Rattle.operations.specs.Stands.{Stands}
-use Rattle.store.specs.declared.answer.Opened.TheVariants.{Accepted}
+use Rattle.std.specs.Prelude.{Ok}
 use Rattle.store.specs.Layout.{field_count, is_handle}
 use Rattle.store.specs.Meaning.{meaning}
 use Rattle.store.specs.Open.{opening, opened_words}
@@ -109,7 +109,7 @@ pub first_kept : {limits : Limits} {s : List ℕ} → Sound limits s → Kept li
 first_kept snd = record { sound = snd; each = with_pair (always_stands snd) (with_pair (never_stands snd) (λ p i. elim i [ ])) }
 
 -- "It starts from a store that open has just accepted, with any n, list and length.", and with any order
-module _ (limits : Limits) (n order : ℕ) (list s : List ℕ) (e : opening limits n order list (length s) ≡ Accepted) where
+module _ (limits : Limits) (n order : ℕ) (list s : List ℕ) (e : opening limits n order list (length s) ≡ Ok tt) where
   pub opened_kept : Kept limits (opened_books n order list (length s))
   opened_kept = first_kept (sound_says limits (opened_words n order list (length s)) (opened_sound limits n order list s e))
 

@@ -4,15 +4,14 @@ use Prim.Native.Nat.{ℕ}
 use mathlib.Core.Path.{◌≡◌, refl, sym, ap, ◌∙◌, subst}
 use mathlib.Core.Bool.{Bool}
 use mathlib.Core.List.{List}
-use Rattle.diagram.specs.declared.placing.Placed.{Placed}
-use Rattle.diagram.specs.declared.placing.Placed.TheVariants.{At, Full}
+use Rattle.std.proofs.Common.{Option, Some, None}
 use Rattle.diagram.specs.Insert.{insert}
 use Rattle.diagram.specs.Inserted.{Inserted}
 use Rattle.diagram.specs.Questions.{finished_in}
 use Rattle.operations.specs.declared.answer.BuildFault.{BuildFault}
 use Rattle.operations.specs.declared.answer.BuildFault.TheVariants.{NoRoom}
-use Rattle.operations.specs.declared.answer.Built.{Built}
-use Rattle.operations.specs.declared.answer.Built.TheVariants.{Handle, Refused}
+use Rattle.operations.specs.Built.{Built}
+use Rattle.std.specs.Prelude.{Ok, Err}
 use Rattle.operations.specs.Later.{Later}
 use Rattle.operations.specs.Operations.{refused, unless_full, added, add_meaning}
 use Rattle.operations.specs.Rests.{Rests}
@@ -32,13 +31,13 @@ use Rattle.operations.proofs.NumberedQuestions.{questions_alike}
 use Rattle.operations.proofs.StandingDiagrams.{later_same, stands_alike, rests_later, finished_later, stands_means}
 
 pub added_cases : (limits : Limits) (s : List ℕ) (t : Tree) (P : Outcome Built → Type 0)
-    → ((h : ℕ) → (insert limits s t).answer ≡ At h → P (outcome (Handle h) (insert limits s t).words)) → P (refused s NoRoom) → P (added limits s t)
+    → ((h : ℕ) → (insert limits s t).answer ≡ Some h → P (outcome (Ok h) (insert limits s t).words)) → P (refused s NoRoom) → P (added limits s t)
 unfolding added
 added_cases limits s t P at full = go (insert limits s t).answer refl
   where
-    go : (a : Placed) → (insert limits s t).answer ≡ a → P (added limits s t)
-    go (At h) d = rw (added, d) (at h d)
-    go Full d = rw (added, d) full
+    go : (a : Option ℕ) → (insert limits s t).answer ≡ a → P (added limits s t)
+    go (Some h) d = rw (added, d) (at h d)
+    go None d = rw (added, d) full
 
 inserted_later : {limits : Limits} {s : List ℕ} {t : Tree} {h : ℕ} {s' : List ℕ} → Inserted limits s t h s' → Later limits s s'
 inserted_later i = record {
@@ -55,7 +54,7 @@ inserted_later i = record {
 -- what a call for a meaning does: the store is a later one, and at the handle, if there is one, stands the finished diagram
 pub record Answered (limits : Limits) (s : List ℕ) (means : Valuation → Bool) (o : Outcome Built) : Type 0 where
   pub later : Later limits s o.words
-  pub stands : (h : ℕ) → o.answer ≡ Handle h → Stands o.words h means
+  pub stands : (h : ℕ) → o.answer ≡ Ok h → Stands o.words h means
 
 -- The meaning may be said in other words.
 pub answered_alike : {limits : Limits} {s : List ℕ} {means others : Valuation → Bool} {o : Outcome Built} → ((v : Valuation) → means v ≡ others v)
@@ -85,14 +84,14 @@ module _ {limits : Limits} {s : List ℕ} (snd : Sound limits s) {means : Valuat
 
   -- A diagram that stands is found again, and nothing is added.
   pub rebuild_same : {h : ℕ} {others : Valuation → Bool} → Stands s h others → ((v : Valuation) → means v ≡ meaning s h v)
-      → add_meaning limits s means ≡ outcome (Handle h) s
+      → add_meaning limits s means ≡ outcome (Ok h) s
   unfolding added
   rebuild_same {h} {others} k e =
       let d : tree s h ≡ finished_in s means = k.diagram ∙ sym (finished_alike s means others (λ v. e v ∙ stands_means snd k v)) in
       ap (unless_full s) (insert_again snd (finished_in s means) h k.handle_in d)
 
 -- "51, used plus new entries exceeds room": every word is as it came
-pub added_unchanged : (limits : Limits) (s : List ℕ) (means : Valuation → Bool) (f : BuildFault) → (add_meaning limits s means).answer ≡ Refused f
+pub added_unchanged : (limits : Limits) (s : List ℕ) (means : Valuation → Bool) (f : BuildFault) → (add_meaning limits s means).answer ≡ Err f
     → (add_meaning limits s means).words ≡ s
-added_unchanged limits s means f = added_cases limits s (finished_in s means) (λ o. o.answer ≡ Refused f → o.words ≡ s)
+added_unchanged limits s means f = added_cases limits s (finished_in s means) (λ o. o.answer ≡ Err f → o.words ≡ s)
     (λ h _ e. absurd (not_both refl e)) (λ _. refl)

@@ -12,11 +12,10 @@ use Rattle.diagram.specs.Insert.{insert, new_count}
 use Rattle.diagram.specs.Inserted.{GrowsBy}
 use Rattle.diagram.specs.Questions.{finished_in}
 use Rattle.operations.specs.declared.answer.BuildFault.TheVariants.{NotSound, NoRoom}
-use Rattle.operations.specs.declared.answer.Built.TheVariants.{Handle, Refused}
+use Rattle.std.specs.Prelude.{Ok, Err}
 use Rattle.operations.specs.Handles.{Call, answer_to, opened_books, run}
 use Rattle.operations.specs.Operations as operation
 use Rattle.operations.specs.Operations.{refused, added, add_meaning}
-use Rattle.store.specs.declared.answer.Opened.TheVariants.{Accepted}
 use Rattle.store.specs.Layout.{used, room}
 use Rattle.store.specs.Open.{opening}
 use Rattle.store.specs.SoundParts.{Sound}
@@ -33,18 +32,18 @@ use Rattle.operations.proofs.HandleLaw.{run_kept}
 use Rattle.operations.proofs.MeaningAdded.{added_cases}
 
 -- ---- 22
-added_not_refused : (limits : Limits) (s : List ℕ) (t : Tree) → (added limits s t).answer ≢ Refused NotSound
-added_not_refused limits s t = added_cases limits s t (λ o. o.answer ≢ Refused NotSound) (λ h _ e. not_both refl e)
+added_not_refused : (limits : Limits) (s : List ℕ) (t : Tree) → (added limits s t).answer ≢ Err NotSound
+added_not_refused limits s t = added_cases limits s t (λ o. o.answer ≢ Err NotSound) (λ h _ e. not_both refl e)
     (λ e. let z : ◌≡◌ {A = ℕ} 0 1 = cc in omega arith)
 
 -- Of a sound store no call answers that it isn't.
-pub sound_not_refused : {limits : Limits} {s : List ℕ} → Sound limits s → (c : Call) → (answer_to limits s c).answer ≢ Refused NotSound
-sound_not_refused {limits} {s} snd c = call_cases limits s (λ o. o.answer ≢ Refused NotSound)
+pub sound_not_refused : {limits : Limits} {s : List ℕ} → Sound limits s → (c : Call) → (answer_to limits s c).answer ≢ Err NotSound
+sound_not_refused {limits} {s} snd c = call_cases limits s (λ o. o.answer ≢ Err NotSound)
     (λ f only e. true≢false (sym (sound_from limits s snd) ∙ only (cc))) c (λ _ _. added_not_refused limits s _)
 
 -- In a run from an accepted open no call answers 22.
-pub never_not_sound : (limits : Limits) (n order : ℕ) (list s : List ℕ) → opening limits n order list (length s) ≡ Accepted → (calls : List Call) (c : Call)
-    → (answer_to limits (run limits (opened_books n order list (length s)) calls).words c).answer ≢ Refused NotSound
+pub never_not_sound : (limits : Limits) (n order : ℕ) (list s : List ℕ) → opening limits n order list (length s) ≡ Ok tt → (calls : List Call) (c : Call)
+    → (answer_to limits (run limits (opened_books n order list (length s)) calls).words c).answer ≢ Err NotSound
 never_not_sound limits n order list s e calls = sound_not_refused (run_kept limits n order list s e calls).sound
 
 -- ---- 51
@@ -54,7 +53,7 @@ module _ {limits : Limits} {s : List ℕ} (snd : Sound limits s) (means : Valuat
 
   -- "So used grows by the number of different entries of the finished diagram that weren't there before."
   pub fits_added : used s + new_count s (finished_in s means) ≤ room limits s
-      → (h : ℕ) × ((add_meaning limits s means).answer ≡ Handle h) × (used (add_meaning limits s means).words ≡ used s + new_count s (finished_in s means))
+      → (h : ℕ) × ((add_meaning limits s means).answer ≡ Ok h) × (used (add_meaning limits s means).words ≡ used s + new_count s (finished_in s means))
   unfolding added
   fits_added l = let f = grows.fits l in rw (added, f.1) (f.0, refl, f.2)
 
@@ -63,7 +62,7 @@ module _ {limits : Limits} {s : List ℕ} (snd : Sound limits s) (means : Valuat
   full_refused l = rw (added, grows.full l) refl
 
   -- "51, used plus new entries exceeds room": exactly then
-  pub full_exactly : ((add_meaning limits s means).answer ≡ Refused NoRoom) ↔ (room limits s < used s + new_count s (finished_in s means))
+  pub full_exactly : ((add_meaning limits s means).answer ≡ Err NoRoom) ↔ (room limits s < used s + new_count s (finished_in s means))
   full_exactly = (
     λ e. elim (dec_lt (room limits s) (used s + new_count s (finished_in s means))) [
       | yes l ↦ l
@@ -72,15 +71,15 @@ module _ {limits : Limits} {s : List ℕ} (snd : Sound limits s) (means : Valuat
     λ l. ap (λ o. o.answer) (full_refused l),
   )
 
-  pub accepted_grows : (h : ℕ) → (add_meaning limits s means).answer ≡ Handle h → used (add_meaning limits s means).words ≡ used s + new_count s (finished_in s means)
+  pub accepted_grows : (h : ℕ) → (add_meaning limits s means).answer ≡ Ok h → used (add_meaning limits s means).words ≡ used s + new_count s (finished_in s means)
   accepted_grows h e = elim (dec_lt (room limits s) (used s + new_count s (finished_in s means))) [
     | yes l ↦ absurd (not_both e (ap (λ o. o.answer) (full_refused l)))
     | no n ↦ (fits_added (omega arith)).2
   ]
 
 -- "The last row is the rule. Its finished diagram alone is added, no other row's."
-pub build_grows : {limits : Limits} {s : List ℕ} → Sound limits s → (table : List ℕ) (h : ℕ) → (operation.build limits s table).answer ≡ Handle h
+pub build_grows : {limits : Limits} {s : List ℕ} → Sound limits s → (table : List ℕ) (h : ℕ) → (operation.build limits s table).answer ≡ Ok h
     → used (operation.build limits s table).words ≡ used s + new_count s (finished_in s (rule_meaning table))
 build_grows {limits} {s} snd table h = build_cases snd table
-    (λ o. o.answer ≡ Handle h → used o.words ≡ used s + new_count s (finished_in s (rule_meaning table)))
+    (λ o. o.answer ≡ Ok h → used o.words ≡ used s + new_count s (finished_in s (rule_meaning table)))
     (λ _. accepted_grows snd (rule_meaning table) h) (λ f _ e. absurd (not_both e refl))

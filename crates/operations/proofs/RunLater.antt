@@ -5,7 +5,7 @@ use mathlib.Core.Path.{◌≡◌}
 use mathlib.Core.Bool.{Bool}
 use mathlib.Core.List.{List, [], ◌∷◌}
 use mathlib.Core.Option.{none}
-use Rattle.operations.specs.declared.answer.Built.TheVariants.{Handle}
+use Rattle.std.specs.Prelude.{Ok}
 use Rattle.operations.specs.Handles.{Call, answer_to, first_ledger, rule_of_call, Books, after, run}
 use Rattle.operations.specs.Later.{Later}
 use Rattle.operations.specs.Operations as operation
@@ -36,7 +36,7 @@ pub run_sound : {limits : Limits} (b : Books) → Sound limits b.words → (call
 run_sound b snd calls = (run_later b snd calls).sound
 
 -- a handle that an accepted call returned has its finished diagram still, after any further calls
-pub returned_stands : {limits : Limits} (b : Books) → Sound limits b.words → (c : Call) (h : ℕ) → (answer_to limits b.words c).answer ≡ Handle h
+pub returned_stands : {limits : Limits} (b : Books) → Sound limits b.words → (c : Call) (h : ℕ) → (answer_to limits b.words c).answer ≡ Ok h
     → (calls : List Call) → Stands (run limits (after limits b c) calls).words h (rule_of_call first_ledger b.words c)
 returned_stands {limits} b snd c h e calls =
     let a = call_answered (first_kept snd) c in
@@ -45,15 +45,15 @@ returned_stands {limits} b snd c h e calls =
 -- any accepted table that means what such a handle does
 pub build_again : {limits : Limits} {s : List ℕ} → Sound limits s → {h : ℕ} {means : Valuation → Bool} → Stands s h means
     → (table : List ℕ) → table_fault limits s table ≡ none → ((v : Valuation) → rule_meaning table v ≡ meaning s h v)
-    → operation.build limits s table ≡ outcome (Handle h) s
+    → operation.build limits s table ≡ outcome (Ok h) s
 unfolding operation.build
 build_again {limits} {s} snd k table f e = rw (sound_from limits s snd, f) (rebuild_same snd k e)
 
 -- "Building it on the same store gives that handle again if one of the operations had returned it.": so does every accepted table that means what
 -- the handle does, and no word changes
-pub returned_again : {limits : Limits} (b : Books) → Sound limits b.words → (c : Call) (h : ℕ) → (answer_to limits b.words c).answer ≡ Handle h
+pub returned_again : {limits : Limits} (b : Books) → Sound limits b.words → (c : Call) (h : ℕ) → (answer_to limits b.words c).answer ≡ Ok h
     → (calls : List Call) (table : List ℕ) → table_fault limits (run limits (after limits b c) calls).words table ≡ none
     → ((v : Valuation) → rule_meaning table v ≡ meaning (run limits (after limits b c) calls).words h v)
-    → operation.build limits (run limits (after limits b c) calls).words table ≡ outcome (Handle h) (run limits (after limits b c) calls).words
+    → operation.build limits (run limits (after limits b c) calls).words table ≡ outcome (Ok h) (run limits (after limits b c) calls).words
 returned_again {limits} b snd c h e calls =
     build_again (run_sound (after limits b c) (call_later snd c).sound calls) (returned_stands b snd c h e calls)

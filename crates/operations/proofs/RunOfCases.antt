@@ -5,13 +5,12 @@ use mathlib.Core.Path.{◌≡◌, refl}
 use mathlib.Core.Bool.{Bool, true, false, not}
 use mathlib.Core.List.{[], ◌∷◌, map}
 use lib.ListN.{length, replicate}
-use Rattle.operations.specs.declared.answer.Built.TheVariants.{Handle}
+use Rattle.std.specs.Prelude.{Ok}
 use Rattle.operations.specs.Between.{call, reopen, run_steps}
 use Rattle.operations.specs.BooleanLaws.{letter, not_of, BooleanLaw, is_letter, is_not, meanwhile}
 use Rattle.operations.specs.Handles.{build, negate, answer_to, pair, Books, first_books, opened_books, after, run, In, newest}
 use Rattle.operations.specs.Openings.{by_list, by_raw_list, opened_by}
 use Rattle.operations.specs.ThreeEqual.{three_equal, three_equal_raw, last_equal, outer_equal, not_outer, after_case_6}
-use Rattle.store.specs.declared.answer.Opened.TheVariants.{Accepted}
 use Rattle.store.specs.Open.{opening}
 use Rattle.store.specs.Outcome.{Outcome}
 use Rattle.tables.specs.Rows.{rule_meaning}
@@ -72,7 +71,7 @@ run_from_raw LeftFirst = (refl, (refl, refl))
 -- both calls are accepted
 abbrev NegationsAccepted : ℕ → Type 0
 NegationsAccepted order =
-    ((answer_to store_limits (one_build order).words (negate 5)).answer ≡ Handle 9) × ((answer_to store_limits (negated_once order).words (negate 9)).answer ≡ Handle 5)
+    ((answer_to store_limits (one_build order).words (negate 5)).answer ≡ Ok 9) × ((answer_to store_limits (negated_once order).words (negate 9)).answer ≡ Ok 5)
 
 pub negations_accepted : (order : ListOrder) → NegationsAccepted (order_number order)
 unfolding operations_compute
@@ -91,14 +90,14 @@ unfolding operations_compute
 x_entered FieldsFirst = newest
 x_entered LeftFirst = newest
 
-opens : (order : ListOrder) → opening store_limits 3 (order_number order) three_equal (length (replicate {A = ℕ} 34 0)) ≡ Accepted
+opens : (order : ListOrder) → opening store_limits 3 (order_number order) three_equal (length (replicate {A = ℕ} 34 0)) ≡ Ok tt
 unfolding operations_compute
 opens FieldsFirst = refl
 opens LeftFirst = refl
 
 -- Whatever handles the two calls answer with, the second is x's own: by the law, not by computing.
-pub double_negation : (order : ListOrder) (a h : ℕ) → (answer_to store_limits (one_build (order_number order)).words (negate 5)).answer ≡ Handle a
-    → (answer_to store_limits (negated_once (order_number order)).words (negate a)).answer ≡ Handle h → h ≡ 5
+pub double_negation : (order : ListOrder) (a h : ℕ) → (answer_to store_limits (one_build (order_number order)).words (negate 5)).answer ≡ Ok a
+    → (answer_to store_limits (negated_once (order_number order)).words (negate a)).answer ≡ Ok h → h ≡ 5
 double_negation order a h e f =
     let fives : ℕ → ℕ = λ _. 5 in
     let x = is_letter 0 (x_entered order) in

@@ -4,7 +4,7 @@ use Prim.Native.Nat.{ℕ, ◌*◌, ◌≤◌}
 use mathlib.Core.Path.{◌≡◌, ap, ◌∙◌}
 use mathlib.Core.List.{List}
 use lib.ListN.{take}
-use Rattle.operations.specs.declared.answer.Built.TheVariants.{Handle}
+use Rattle.std.specs.Prelude.{Ok}
 use Rattle.operations.specs.Handles.{Call, answer_to, Books, after, run}
 use Rattle.operations.specs.Operations as operation
 use Rattle.store.specs.Outcome.{outcome}
@@ -19,12 +19,12 @@ use Rattle.writing.proofs.WrittenMeans.{written_means}
 use Rattle.operations.proofs.RunLater.{call_later, run_sound, returned_stands, returned_again}
 
 -- "Building it on the same store gives that handle again if one of the operations had returned it."
-module _ {limits : Limits} (b : Books) (snd : Sound limits b.words) (c : Call) (h : ℕ) (e : (answer_to limits b.words c).answer ≡ Handle h)
+module _ {limits : Limits} (b : Books) (snd : Sound limits b.words) (c : Call) (h : ℕ) (e : (answer_to limits b.words c).answer ≡ Ok h)
     (calls : List Call) where
   abbrev now : List ℕ
   now = (run limits (after limits b c) calls).words
 
-  pub rows_again : written_count now h ≤ most_rows → operation.build limits now (written_rows now h) ≡ outcome (Handle h) now
+  pub rows_again : written_count now h ≤ most_rows → operation.build limits now (written_rows now h) ≡ outcome (Ok h) now
   rows_again few =
       let later = run_sound (after limits b c) (call_later snd c).sound calls in
       let u = (returned_stands b snd c h e calls).handle_in in
@@ -32,7 +32,7 @@ module _ {limits : Limits} (b : Books) (snd : Sound limits b.words) (c : Call) (
 
   -- the rows are the first words of the slice, four for each row that write back answers
   pub written_again : (out : List ℕ) (k : ℕ) → (write_back limits now h out).answer ≡ Rows k
-      → operation.build limits now (take (row_length * k) (write_back limits now h out).words) ≡ outcome (Handle h) now
+      → operation.build limits now (take (row_length * k) (write_back limits now h out).words) ≡ outcome (Ok h) now
   written_again out k answered =
       let w = written_back limits now h out k answered in
       ap (operation.build limits now) w.rows_first ∙ rows_again w.few

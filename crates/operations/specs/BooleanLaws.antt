@@ -1,6 +1,5 @@
 -- Laws of Boolean algebra, worked out by calls (document 01, "The handle laws").
-use Rattle.std.specs.Prelude.{ℕ, ◌≡◌, Bool, true, false, cond, not, ◌&&◌}
-use Rattle.operations.specs.declared.answer.Built.TheVariants.{Handle}
+use Rattle.std.specs.Prelude.{ℕ, ◌≡◌, Bool, true, false, cond, not, ◌&&◌, Ok}
 use Rattle.operations.specs.Handles.{Call, negate, join, choose, answer_to, Rule, pair, Books, after, In}
 use Rattle.terms.specs.declared.limits.Limits.{Limits}
 
@@ -35,13 +34,13 @@ pub data Worked (limits : Limits) (letters : ℕ → ℕ) (start : Books) : Form
   is_always : Worked limits letters start always 1 start
   -- each call is accepted
   is_not : {f : Formula} {a h : ℕ} {b : Books} → Worked limits letters start f a b
-      → (answer_to limits b.words (negate a)).answer ≡ Handle h
+      → (answer_to limits b.words (negate a)).answer ≡ Ok h
       → Worked limits letters start (not_of f) h (after limits b (negate a))
   is_and : {f g : Formula} {a c h : ℕ} {b : Books} → Worked limits letters start f a b → Worked limits letters start g c b
-      → (answer_to limits b.words (join a c)).answer ≡ Handle h
+      → (answer_to limits b.words (join a c)).answer ≡ Ok h
       → Worked limits letters start (and_of f g) h (after limits b (join a c))
   is_if : {f g e : Formula} {a c d h : ℕ} {b : Books} → Worked limits letters start f a b → Worked limits letters start g c b → Worked limits letters start e d b
-      → (answer_to limits b.words (choose a c d)).answer ≡ Handle h
+      → (answer_to limits b.words (choose a c d)).answer ≡ Ok h
       → Worked limits letters start (if_of f g e) h (after limits b (choose a c d))
   -- any other call of the list
   meanwhile : {f : Formula} {h : ℕ} {b : Books} → Worked limits letters start f h b → (c : Call) → Worked limits letters start f h (after limits b c)

@@ -1,7 +1,6 @@
 -- The handle laws (document 01, section of that name): the calls, the ledger beside the store, and the claim.
 use Rattle.std.specs.Prelude.{ℕ, ◌≡◌, ◌↔◌, Bool, true, false, cond, not, ◌&&◌, List, [], ◌∷◌, eqb}
-use Rattle.operations.specs.declared.answer.Built.{Built}
-use Rattle.operations.specs.Built.{if_built}
+use Rattle.operations.specs.Built.{Built, if_built}
 use Rattle.operations.specs.Operations as operation
 use Rattle.store.specs.Meaning.{meaning}
 use Rattle.store.specs.Open.{opened_words}

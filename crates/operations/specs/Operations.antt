@@ -1,15 +1,12 @@
 -- Build, negate, join and choose: the finished diagram of a meaning is added to the store, or nothing is changed. Each line that refuses stands
 -- once, and goes on where its condition is not met.
-use Rattle.std.specs.Prelude.{ℕ, Bool, cond, not, ◌&&◌, List}
+use Rattle.std.specs.Prelude.{ℕ, Bool, cond, not, ◌&&◌, List, Option, Some, None, Ok, Err}
 use Rattle.std.proofs.Math.Option.{Option, none, some}
-use Rattle.diagram.specs.declared.placing.Placed.{Placed}
-use Rattle.diagram.specs.declared.placing.Placed.TheVariants.{At, Full}
 use Rattle.diagram.specs.Insert.{insert}
 use Rattle.diagram.specs.Questions.{finished_in}
 use Rattle.operations.specs.declared.answer.BuildFault.{BuildFault}
 use Rattle.operations.specs.declared.answer.BuildFault.TheVariants.{NotSound, NoHandle, BadTable, NoRoom}
-use Rattle.operations.specs.declared.answer.Built.{Built}
-use Rattle.operations.specs.declared.answer.Built.TheVariants.{Handle, Refused}
+use Rattle.operations.specs.Built.{Built}
 use Rattle.store.specs.Layout.{is_handle}
 use Rattle.store.specs.Meaning.{meaning}
 use Rattle.store.specs.Outcome.{Outcome, outcome}
@@ -23,7 +20,7 @@ use Rattle.terms.specs.Meaning.{Valuation}
 
 -- "On refusal the result is 0 and all lent words are unchanged."
 abbrev pub refused : List ℕ → BuildFault → Outcome Built
-refused s f = outcome (Refused f) s
+refused s f = outcome (Err f) s
 
 -- "22, store not sound at any later call"
 abbrev pub if_sound : Limits → List ℕ → Outcome Built → Outcome Built
@@ -39,8 +36,8 @@ if_taken s none next = next
 if_taken s (some f) next = refused s (BadTable f)
 
 -- "51, used plus new entries exceeds room": then every word is as it came, here s
-abbrev pub unless_full : List ℕ → Outcome Placed → Outcome Built
-unless_full s o = elim o.answer as (λ _. Outcome Built) [ At h ↦ outcome (Handle h) o.words | Full ↦ refused s NoRoom ]
+abbrev pub unless_full : List ℕ → Outcome (Option ℕ) → Outcome Built
+unless_full s o = elim o.answer as (λ _. Outcome Built) [ Some h ↦ outcome (Ok h) o.words | None ↦ refused s NoRoom ]
 
 unfoldable pub added : Limits → List ℕ → Tree → Outcome Built
 added limits s t = unless_full s (insert limits s t)

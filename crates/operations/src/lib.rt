@@ -3,4 +3,4 @@
 
 mod answer;
 
-pub use answer::{BuildFault, Built, built_number, built_result};
+pub use answer::BuildFault;

@@ -9,7 +9,7 @@ use mathlib.Core.Logic.{◌↔◌}
 use native.Mathlib.Omega.{arith}
 use borrow.Author.Tests.{le-leb}
 use lib.ListN.{length}
-use Rattle.store.specs.declared.answer.Opened.TheVariants.{Accepted}
+use Rattle.std.specs.Prelude.{Ok}
 use Rattle.store.specs.Layout.{question_in}
 use Rattle.store.specs.Open.{above_last, question_fault, list_fault}
 use Rattle.store.proofs.SoundList.{each_accepted, accepted_allows}
@@ -40,7 +40,7 @@ use Rattle.raw_lists.proofs.OneList.{resulting_ascends, resulting_only}
 -- ---- each question
 module _ (order : Order) (limits : TermLimits) (words : List ℕ) where
   -- what an accepted question passes, beside the limits
-  accepted_form : (k : ℕ) → question_fault order limits words k ≡ Accepted → is_simplified (question_in words k) ≡ true
+  accepted_form : (k : ℕ) → question_fault order limits words k ≡ Ok tt → is_simplified (question_in words k) ≡ true
   unfolding question_fault
   accepted_form k e = go (is_simplified (question_in words k)) refl
     where
@@ -50,7 +50,7 @@ module _ (order : Order) (limits : TermLimits) (words : List ℕ) where
           let r = rw (question_fault, accepted_allows order limits words k e, i) at e in
           absurd (let z : ◌≡◌ {A = ℕ} 0 1 = cc in omega arith)
 
-  accepted_above : (k : ℕ) → question_fault order limits words k ≡ Accepted → above_last order words k ≡ true
+  accepted_above : (k : ℕ) → question_fault order limits words k ≡ Ok tt → above_last order words k ≡ true
   unfolding question_fault
   accepted_above k e = go (above_last order words k) refl
     where
@@ -61,11 +61,11 @@ module _ (order : Order) (limits : TermLimits) (words : List ℕ) where
           absurd (let z : ◌≡◌ {A = ℕ} 0 1 = cc in omega arith)
 
   question_accepted : (k : ℕ) → both_allowed limits (question_in words k) ≡ true → is_simplified (question_in words k) ≡ true → above_last order words k ≡ true
-      → question_fault order limits words k ≡ Accepted
+      → question_fault order limits words k ≡ Ok tt
   unfolding question_fault
   question_accepted k a f o = rw (a, f, o)
 
-  all_accepted : (left k : ℕ) → ((j : ℕ) → j < k + left → question_fault order limits words j ≡ Accepted) → list_fault order limits words left k ≡ Accepted
+  all_accepted : (left k : ℕ) → ((j : ℕ) → j < k + left → question_fault order limits words j ≡ Ok tt) → list_fault order limits words left k ≡ Ok tt
   unfolding list_fault
   all_accepted zero k f = refl
   all_accepted (suc left) k f = rw (f k (omega arith)) (all_accepted left (k + 1) (λ j h. f j (omega arith)))
@@ -73,7 +73,7 @@ module _ (order : Order) (limits : TermLimits) (words : List ℕ) where
   -- ---- the list
   -- what opening takes
   list_taken : Ascends order (equations words) → ((q : Equation) → In q (equations words) → (both_allowed limits q ≡ true) × (is_simplified q ≡ true))
-      → list_fault order limits words (length words / 2) 0 ≡ Accepted
+      → list_fault order limits words (length words / 2) 0 ≡ Ok tt
   list_taken a each =
       all_accepted (length words / 2) 0 (λ j h.
       let q = each (question_in words j) (member_at words j (omega arith)) in
@@ -83,8 +83,8 @@ module _ (order : Order) (limits : TermLimits) (words : List ℕ) where
       above zero h = refl
       above (suc j) h = ascends_at order words a j h
 
-  module _ (taken : list_fault order limits words (length words / 2) 0 ≡ Accepted) where
-    at_place : (j : ℕ) → j < length words / 2 → question_fault order limits words j ≡ Accepted
+  module _ (taken : list_fault order limits words (length words / 2) 0 ≡ Ok tt) where
+    at_place : (j : ℕ) → j < length words / 2 → question_fault order limits words j ≡ Ok tt
     at_place j h = each_accepted order limits words (length words / 2) 0 taken j (omega arith) (omega arith)
 
     taken_allowed : (e : Equation) → In e (equations words) → both_allowed limits e ≡ true
@@ -136,7 +136,7 @@ module _ (order : ListOrder) (raw : List ℕ) where
       simplify_wordy w.0 q (wordy w.0 w.1).0 (wordy w.0 w.1).1 w.2)
 
   pub resulting_taken : (limits : TermLimits) → all_allowed limits es ≡ true
-      → list_fault (order_of order) limits (resulting_list order raw) (length (resulting_list order raw) / 2) 0 ≡ Accepted
+      → list_fault (order_of order) limits (resulting_list order raw) (length (resulting_list order raw) / 2) 0 ≡ Ok tt
   resulting_taken limits a =
       list_taken (order_of order) limits (resulting_list order raw) (rw resulting_words (resulting_ascends (order_of order) (orders_strict_total order) es))
       (λ q m.
@@ -150,7 +150,7 @@ module _ (order : ListOrder) (raw : List ℕ) where
 
 -- ---- a list that opening takes results in itself
 module _ (order : ListOrder) (limits : TermLimits) (list : List ℕ) (even : 2 * (length list / 2) ≡ length list)
-    (taken : list_fault (order_of order) limits list (length list / 2) 0 ≡ Accepted) where
+    (taken : list_fault (order_of order) limits list (length list / 2) 0 ≡ Ok tt) where
   pub list_allowed : all_allowed limits (equations list) ≡ true
   list_allowed = all_allowed_from limits (equations list) (taken_allowed (order_of order) limits list taken)
 

@@ -5,7 +5,6 @@ pub mod OneList
 pub mod Respelling
 pub mod RawTerms
 pub mod AcceptedList
-pub mod OpenRawWays
 pub mod RawAccepts
 pub mod RefusedLeaves
 pub mod RawOpens

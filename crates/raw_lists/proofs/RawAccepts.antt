@@ -18,8 +18,8 @@ use Rattle.terms.proofs.Cases.{by_test, by_eq, by_lt}
 use Rattle.terms.proofs.OrderNumbers.{known_says}
 use Rattle.raw_lists.specs.declared.answer.RawFault.{RawFault}
 use Rattle.raw_lists.specs.declared.answer.RawFault.TheVariants.{TooManyFields, UnknownOrder, OddList, TooManyEquations, OutOfLimits, TooManyQuestions, TooShort}
-use Rattle.raw_lists.specs.declared.answer.RawOpened.{RawOpened}
-use Rattle.raw_lists.specs.declared.answer.RawOpened.TheVariants.{Accepted}
+use Rattle.raw_lists.specs.RawOpened.{RawOpened}
+use Rattle.std.specs.Prelude.{Ok}
 use Rattle.raw_lists.specs.Equations.{equations}
 use Rattle.raw_lists.specs.OnPaper.{Taken}
 use Rattle.raw_lists.specs.OpenRaw.{all_allowed, resulting_list, raw_refused, open_resulting, open_collected, open_raw_in, open_raw}
@@ -33,30 +33,30 @@ pub record RawAccepts (limits : Limits) (n order : ℕ) (raw s words : List ℕ)
   pub fits : heading_length + length (resulting_list known raw) ≤ length s
   pub words_are : words ≡ opened_words n order (resulting_list known raw) (length s)
 
-no : (s : List ℕ) (f : RawFault) → (raw_refused s f).answer ≡ Accepted → ⊥
+no : (s : List ℕ) (f : RawFault) → (raw_refused s f).answer ≡ Ok tt → ⊥
 no s f e = let z : ◌≡◌ {A = ℕ} 0 1 = cc in omega arith
 
 -- a test that would refuse did not pass
 module _ (s : List ℕ) (f : RawFault) (o : Outcome RawOpened) where
-  past_lt : (x y : ℕ) → (cond (ltb x y) (raw_refused s f) o).answer ≡ Accepted → (y ≤ x) × (cond (ltb x y) (raw_refused s f) o ≡ o) × (o.answer ≡ Accepted)
-  past_lt x y = by_lt (λ t. (cond t (raw_refused s f) o).answer ≡ Accepted → (y ≤ x) × (cond t (raw_refused s f) o ≡ o) × (o.answer ≡ Accepted)) x y
+  past_lt : (x y : ℕ) → (cond (ltb x y) (raw_refused s f) o).answer ≡ Ok tt → (y ≤ x) × (cond (ltb x y) (raw_refused s f) o ≡ o) × (o.answer ≡ Ok tt)
+  past_lt x y = by_lt (λ t. (cond t (raw_refused s f) o).answer ≡ Ok tt → (y ≤ x) × (cond t (raw_refused s f) o ≡ o) × (o.answer ≡ Ok tt)) x y
       (λ _ e. absurd (no s f e)) (λ h e. (h, refl, e))
 
-  past_eq : (x y : ℕ) → (cond (eqb x y) (raw_refused s f) o).answer ≡ Accepted → (x ≢ y) × (cond (eqb x y) (raw_refused s f) o ≡ o) × (o.answer ≡ Accepted)
-  past_eq x y = by_eq (λ t. (cond t (raw_refused s f) o).answer ≡ Accepted → (x ≢ y) × (cond t (raw_refused s f) o ≡ o) × (o.answer ≡ Accepted)) x y
+  past_eq : (x y : ℕ) → (cond (eqb x y) (raw_refused s f) o).answer ≡ Ok tt → (x ≢ y) × (cond (eqb x y) (raw_refused s f) o ≡ o) × (o.answer ≡ Ok tt)
+  past_eq x y = by_eq (λ t. (cond t (raw_refused s f) o).answer ≡ Ok tt → (x ≢ y) × (cond t (raw_refused s f) o ≡ o) × (o.answer ≡ Ok tt)) x y
       (λ _ e. absurd (no s f e)) (λ h e. (h, refl, e))
 
-  passed : (b : Bool) → (cond b o (raw_refused s f)).answer ≡ Accepted → (b ≡ true) × (cond b o (raw_refused s f) ≡ o) × (o.answer ≡ Accepted)
-  passed b = by_test (λ t. (cond t o (raw_refused s f)).answer ≡ Accepted → (t ≡ true) × (cond t o (raw_refused s f) ≡ o) × (o.answer ≡ Accepted)) b
+  passed : (b : Bool) → (cond b o (raw_refused s f)).answer ≡ Ok tt → (b ≡ true) × (cond b o (raw_refused s f) ≡ o) × (o.answer ≡ Ok tt)
+  passed b = by_test (λ t. (cond t o (raw_refused s f)).answer ≡ Ok tt → (t ≡ true) × (cond t o (raw_refused s f) ≡ o) × (o.answer ≡ Ok tt)) b
       (λ _ e. (refl, refl, e)) (λ _ e. absurd (no s f e))
 
 module _ (limits : Limits) (n order : ℕ) (raw s : List ℕ) where
-  pub raw_accepts : (open_raw limits n order raw s).answer ≡ Accepted → RawAccepts limits n order raw s (open_raw limits n order raw s).words
+  pub raw_accepts : (open_raw limits n order raw s).answer ≡ Ok tt → RawAccepts limits n order raw s (open_raw limits n order raw s).words
   unfolding open_raw open_raw_in open_collected open_resulting
   raw_accepts e =
       let fields = past_lt s TooManyFields _ limits.terms.field.0 n e in
       let known = known_says order (λ (known : ListOrder). open_raw_in known limits n raw s) (raw_refused s UnknownOrder) _ (sym fields.1) (λ r. no s UnknownOrder (ap (λ o. o.answer) r ∙ e)) in
-      let in_order : (open_raw_in known.0 limits n raw s).answer ≡ Accepted = ap (λ o. o.answer) known.2 ∙ e in
+      let in_order : (open_raw_in known.0 limits n raw s).answer ≡ (Ok tt) = ap (λ o. o.answer) known.2 ∙ e in
       let even = past_eq s OddList _ (length raw % 2) 1 in_order in
       let few_raw = past_lt s TooManyEquations _ _ (length raw / 2) even.2 in
       let allowed = passed s OutOfLimits _ (all_allowed (terms_within limits n) (equations raw)) few_raw.2 in

@@ -6,21 +6,20 @@ use mathlib.Core.Bool.{true}
 use mathlib.Core.List.{List}
 use native.Mathlib.Omega.{arith}
 use lib.ListN.{length}
-use Rattle.store.specs.declared.answer.Opened.TheVariants.{Accepted}
+use Rattle.std.specs.Prelude.{Ok}
 use Rattle.store.specs.Open.{opening, opened_words, open_store}
+use Rattle.store.specs.Outcome.{outcome}
 use Rattle.store.specs.Sound.{sound}
 use Rattle.store.specs.Layout.{list_words}
-use Rattle.store.proofs.OpenAccepts.{accepted_opening}
+use Rattle.store.proofs.OpenAccepts.{accepts_opens, opens, accepted_opening}
 use Rattle.store.proofs.OpenedWords.{opened_list}
 use Rattle.store.proofs.OpenSound.{opened_sound}
-use Rattle.store.proofs.OpenWays.{known_order, accepted, opens}
 use Rattle.terms.specs.declared.limits.Limits.{Limits}
 use Rattle.terms.specs.declared.order.ListOrder.{ListOrder}
 use Rattle.terms.specs.Limits.{terms_within}
 use Rattle.terms.specs.Order.{order_of, order_number, order_named}
 use Rattle.terms.proofs.OrderNumbers.{number_names, number_only}
 use Rattle.terms.proofs.QuestionOrder.{orders_strict_total}
-use Rattle.raw_lists.specs.declared.answer.RawOpened.TheVariants as raw_answer
 use Rattle.raw_lists.specs.Equations.{equations}
 use Rattle.raw_lists.specs.IsResulting.{IsResulting}
 use Rattle.raw_lists.specs.OpenRaw.{resulting_list, open_raw}
@@ -32,25 +31,30 @@ use Rattle.raw_lists.proofs.RawAccepts.{RawAccepts, raw_accepts}
 
 module _ (limits : Limits) (n order : ℕ) (raw s : List ℕ) where
   -- open takes the resulting list
-  opens_list : {words : List ℕ} → (a : RawAccepts limits n order raw s words) → opening limits n order (resulting_list a.known raw) (length s) ≡ Accepted
+  opens_list : {words : List ℕ} → (a : RawAccepts limits n order raw s words) → opening limits n order (resulting_list a.known raw) (length s) ≡ Ok tt
   opens_list a =
-      let list = resulting_list a.known raw in
-      sym (known_order limits n order list (length s) a.fields refl (ap order_named a.order_is ∙ number_names a.known)
-      (accepted a.known limits n list (length s) (omega (arith, words_even (resulting (order_of a.known) (equations raw)))) a.few refl refl
-      (resulting_taken a.known raw (terms_within limits n) a.taken.allowed) a.fits))
+      accepts_opens limits n order (resulting_list a.known raw) (length s) (record {
+        fields = a.fields;
+        known = a.known;
+        order_is = a.order_is;
+        even = omega (arith, words_even (resulting (order_of a.known) (equations raw)));
+        few = a.few;
+        faultless = resulting_taken a.known raw (terms_within limits n) a.taken.allowed;
+        fits = a.fits;
+      })
 
-  pub raw_opens : (open_raw limits n order raw s).answer ≡ raw_answer.Accepted → OpensResulting limits n order raw s
+  pub raw_opens : (open_raw limits n order raw s).answer ≡ Ok tt → OpensResulting limits n order raw s
   raw_opens e =
       let a = raw_accepts limits n order raw s e in
       record {
         known = a.known;
         order_is = a.order_is;
-        as_open = sym (opens limits n order (resulting_list a.known raw) s (sym (opens_list a)) refl a.words_are);
+        as_open = opens limits n order (resulting_list a.known raw) s (opens_list a) ∙ ap (outcome (Ok tt)) (sym a.words_are);
       }
 
   -- ---- what follows of the words
   module _ (o : OpensResulting limits n order raw s) where
-    pub resulting_opening : opening limits n order (resulting_list o.known raw) (length s) ≡ Accepted
+    pub resulting_opening : opening limits n order (resulting_list o.known raw) (length s) ≡ Ok tt
     resulting_opening = accepted_opening limits n order (resulting_list o.known raw) s (ap (λ x. x.answer) o.as_open)
 
     pub resulting_opened : (open_raw limits n order raw s).words ≡ opened_words n order (resulting_list o.known raw) (length s)
@@ -69,14 +73,14 @@ module _ (limits : Limits) (n order : ℕ) (raw s : List ℕ) where
     raw_sound = rw resulting_opened (opened_sound limits n order (resulting_list o.known raw) s resulting_opening)
 
 -- The same with an order for its number.
-module _ (limits : Limits) (order : ListOrder) (n : ℕ) (raw s : List ℕ) (e : (open_raw limits n (order_number order) raw s).answer ≡ raw_answer.Accepted) where
+module _ (limits : Limits) (order : ListOrder) (n : ℕ) (raw s : List ℕ) (e : (open_raw limits n (order_number order) raw s).answer ≡ Ok tt) where
   abbrev o : OpensResulting limits n (order_number order) raw s
   o = raw_opens limits n (order_number order) raw s e
 
   same_list : resulting_list o.known raw ≡ resulting_list order raw
   same_list = ap (λ known. resulting_list known raw) (sym (number_only order o.known o.order_is))
 
-  pub opens_in_order : opening limits n (order_number order) (resulting_list order raw) (length s) ≡ Accepted
+  pub opens_in_order : opening limits n (order_number order) (resulting_list order raw) (length s) ≡ Ok tt
   opens_in_order = rw same_list at (resulting_opening limits n (order_number order) raw s o)
 
   pub opened_in_order : (open_raw limits n (order_number order) raw s).words ≡ opened_words n (order_number order) (resulting_list order raw) (length s)

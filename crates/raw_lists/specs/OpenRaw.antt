@@ -1,5 +1,5 @@
 -- Opening a store with a raw list (document 02, i). Each line that refuses stands once, and goes on where its condition is not met.
-use Rattle.std.specs.Prelude.{ℕ, ◌+◌, ◌/◌, ◌%◌, Bool, true, cond, ◌&&◌, List, [], ◌∷◌, eqb, ltb, length}
+use Rattle.std.specs.Prelude.{ℕ, ◌+◌, ◌/◌, ◌%◌, Bool, true, cond, ◌&&◌, List, [], ◌∷◌, eqb, ltb, length, Ok, Err}
 use Rattle.store.specs.Layout.{heading_length}
 use Rattle.store.specs.Open.{opened_words}
 use Rattle.store.specs.Outcome.{Outcome, outcome}
@@ -12,8 +12,7 @@ use Rattle.terms.specs.Order.{order_of, order_number, order_named, if_known}
 use Rattle.terms.specs.Words.{allows}
 use Rattle.raw_lists.specs.declared.answer.RawFault.{RawFault}
 use Rattle.raw_lists.specs.declared.answer.RawFault.TheVariants.{TooManyFields, UnknownOrder, OddList, TooManyEquations, OutOfLimits, TooManyQuestions, TooShort}
-use Rattle.raw_lists.specs.declared.answer.RawOpened.{RawOpened}
-use Rattle.raw_lists.specs.declared.answer.RawOpened.TheVariants.{Accepted, Refused}
+use Rattle.raw_lists.specs.RawOpened.{RawOpened}
 use Rattle.raw_lists.specs.Equations.{equations, words_of}
 use Rattle.raw_lists.specs.Limits.{most_equations}
 use Rattle.raw_lists.specs.Resulting.{resulting}
@@ -33,14 +32,14 @@ resulting_list order raw = words_of (resulting (order_of order) (equations raw))
 
 -- "On refusal the result is 0 and all lent words are unchanged."
 abbrev pub raw_refused : List ℕ → RawFault → Outcome RawOpened
-raw_refused s f = outcome (Refused f) s
+raw_refused s f = outcome (Err f) s
 
 -- "The limit of 20 counts what remains": 13 and 21 of the resulting list; then the words that open writes
 unfoldable pub open_resulting : Limits → ℕ → ℕ → List ℕ → List ℕ → Outcome RawOpened
 open_resulting limits n order list s =
     cond (ltb limits.questions (length list / 2)) (raw_refused s TooManyQuestions)
     (cond (ltb (length s) (heading_length + length list)) (raw_refused s TooShort)
-    (outcome Accepted (opened_words n order list (length s))))
+    (outcome (Ok tt) (opened_words n order list (length s))))
 
 -- "13 moves to after the last equation's 14"
 unfoldable pub open_collected : ListOrder → Limits → ℕ → List ℕ → List ℕ → Outcome RawOpened

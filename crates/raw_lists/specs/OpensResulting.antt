@@ -1,6 +1,5 @@
 -- What an accepted opening with a raw list is, said by open: "Meanings and handles then speak of the resulting list."
-use Rattle.std.specs.Prelude.{ℕ, ◌≡◌, List}
-use Rattle.store.specs.declared.answer.Opened.TheVariants.{Accepted}
+use Rattle.std.specs.Prelude.{ℕ, ◌≡◌, List, Ok}
 use Rattle.store.specs.Open.{open_store}
 use Rattle.store.specs.Outcome.{outcome}
 use Rattle.terms.specs.declared.limits.Limits.{Limits}
@@ -12,4 +11,4 @@ use Rattle.raw_lists.specs.OpenRaw.{resulting_list, open_raw}
 pub record OpensResulting (limits : Limits) (n order : ℕ) (raw s : List ℕ) : Type 0 where
   pub known : ListOrder
   pub order_is : order ≡ order_number known
-  pub as_open : open_store limits n order (resulting_list known raw) s ≡ outcome Accepted (open_raw limits n order raw s).words
+  pub as_open : open_store limits n order (resulting_list known raw) s ≡ outcome (Ok tt) (open_raw limits n order raw s).words

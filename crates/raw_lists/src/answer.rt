@@ -1,16 +1,12 @@
-// The answer of opening with a raw list, and the documents' numbers for it.
+// What opening with a raw list refuses, and the documents' numbers for it.
 ghost use Rattle.std.specs.Prelude.{◌≡◌};
 ghost use Rattle.raw_lists.specs.RawOpened as spec;
+ghost use Rattle.raw_lists.specs.declared.answer.RawFault.TheVariants as fault;
 
-// What opening with a raw list answers: that the store was written, or why not.
-#[derive(Clone, Copy)]
-pub enum RawOpened {
-    Accepted,
-    Refused(RawFault),
-}
+use terms::{Refusal, UnknownOrder};
 
 // A rule that is broken. No equation is refused for its form or its place, so two of opening's faults are none here.
-#[derive(Clone, Copy)]
+#[derive(Clone, Copy, Debug, PartialEq, Eq)]
 pub enum RawFault {
     TooManyFields,
     UnknownOrder,
@@ -21,27 +17,35 @@ pub enum RawFault {
     TooShort,
 }
 
-// The number of a fault.
-fn raw_fault_number(f: RawFault) -> u32
-    ensures { result ≡ spec.raw_fault_number f }
-{
-    match f {
-        RawFault::TooManyFields => 11,
-        RawFault::UnknownOrder => 18,
-        RawFault::OddList => 12,
-        RawFault::TooManyEquations => 17,
-        RawFault::OutOfLimits => 14,
-        RawFault::TooManyQuestions => 13,
-        RawFault::TooShort => 21,
+impl Refusal for RawFault {
+    ghost number_of = { spec.raw_fault_number };
+
+    fn number(self) -> u32 {
+        match self {
+            RawFault::TooManyFields => 11,
+            RawFault::UnknownOrder => 18,
+            RawFault::OddList => 12,
+            RawFault::TooManyEquations => 17,
+            RawFault::OutOfLimits => 14,
+            RawFault::TooManyQuestions => 13,
+            RawFault::TooShort => 21,
+        }
     }
 }
 
-// The number of an answer.
-pub fn raw_number(o: RawOpened) -> u32
-    ensures { result ≡ spec.raw_number o }
-{
-    match o {
-        RawOpened::Accepted => 0,
-        RawOpened::Refused(f) => raw_fault_number(f),
+impl From<UnknownOrder> for RawFault {
+    ghost from_gives = { λ _ f. f ≡ fault.UnknownOrder };
+
+    fn from(_: UnknownOrder) -> RawFault {
+        RawFault::UnknownOrder
+    }
+}
+
+// 14 is of the raw terms, as they come: simplify takes no term beyond the limits.
+impl From<terms::OutOfLimits> for RawFault {
+    ghost from_gives = { λ _ f. f ≡ fault.OutOfLimits };
+
+    fn from(_: terms::OutOfLimits) -> RawFault {
+        RawFault::OutOfLimits
     }
 }

@@ -3,4 +3,4 @@
 
 mod answer;
 
-pub use answer::{RawFault, RawOpened, raw_number};
+pub use answer::RawFault;

@@ -7,12 +7,11 @@ use lib.ListN.{length}
 use Rattle.examples.specs.Example.{example}
 use Rattle.examples.specs.ExampleAnswers.{ExampleAnswers}
 use Rattle.operations.specs.Handles.{Call, Pair, Books, first_books, opened_books, run, In}
-use Rattle.raw_lists.specs.declared.answer.RawOpened.TheVariants.{Accepted}
+use Rattle.std.specs.Prelude.{Ok, Err}
 use Rattle.raw_lists.specs.OpenRaw.{resulting_list, open_raw}
 use Rattle.runs.specs.InOrder.{InOrder}
 use Rattle.runs.specs.SheetOrNone.{SheetOrNone}
 use Rattle.runs.specs.RuleExample.{RuleExample}
-use Rattle.store.specs.declared.answer.Opened.TheVariants as open_answers
 use Rattle.store.specs.Layout.{is_handle}
 use Rattle.store.specs.Meaning.{meaning}
 use Rattle.store.specs.Open.{opening}
@@ -24,7 +23,7 @@ use Rattle.verdicts.specs.VerdictSays.{VerdictSays}
 use Rattle.raw_lists.proofs.RawOpens.{opens_in_order, opened_in_order}
 use Rattle.runs.proofs.RunInOrder.{run_in_order, verdict_in_order, example_in_order, example_answered, verdict_of_rule, example_of_rule}
 
-module _ (limits : Limits) (order : ListOrder) (n : ℕ) (raw s : List ℕ) (e : (open_raw limits n (order_number order) raw s).answer ≡ Accepted) (calls : List Call) where
+module _ (limits : Limits) (order : ListOrder) (n : ℕ) (raw s : List ℕ) (e : (open_raw limits n (order_number order) raw s).answer ≡ Ok tt) (calls : List Call) where
   abbrev list : List ℕ
   list = resulting_list order raw
 
@@ -32,7 +31,7 @@ module _ (limits : Limits) (order : ListOrder) (n : ℕ) (raw s : List ℕ) (e :
   abbrev books : Books
   books = run limits (first_books (open_raw limits n (order_number order) raw s).words) calls
 
-  opens : opening limits n (order_number order) list (length s) ≡ open_answers.Accepted
+  opens : opening limits n (order_number order) list (length s) ≡ Ok tt
   opens = opens_in_order limits order n raw s e
 
   -- what holds of the books after open with the resulting list

@@ -18,7 +18,7 @@ use Rattle.reading.specs.Sheet.{sheet_counts}
 use Rattle.runs.specs.InOrder.{InOrder}
 use Rattle.runs.specs.SheetOrNone.{SheetOrNone}
 use Rattle.runs.specs.RuleExample.{RuleExample}
-use Rattle.store.specs.declared.answer.Opened.TheVariants.{Accepted}
+use Rattle.std.specs.Prelude.{Ok}
 use Rattle.store.specs.Layout.{field_count, used, leaves, is_handle}
 use Rattle.store.specs.Meaning.{meaning}
 use Rattle.store.specs.Open.{opening}
@@ -47,7 +47,7 @@ says_alike verdicts.Always e d = λ v. sym (e v) ∙ d v
 says_alike verdicts.Sometimes e d = ((d.0.0, sym (e d.0.0) ∙ d.0.1), (d.1.0, sym (e d.1.0) ∙ d.1.1))
 says_alike (verdicts.Refused f) e d = d
 
-module _ (limits : Limits) (order : ListOrder) (n : ℕ) (list s : List ℕ) (e : opening limits n (order_number order) list (length s) ≡ Accepted)
+module _ (limits : Limits) (order : ListOrder) (n : ℕ) (list s : List ℕ) (e : opening limits n (order_number order) list (length s) ≡ Ok tt)
     (calls : List Call) where
   -- the books after the opening, and after the calls
   abbrev books₀ : Books

@@ -4,15 +4,12 @@ use Rattle.examples.specs.declared.answer.Example.{Example}
 use Rattle.examples.specs.Example.{example_number}
 use Rattle.normal_form.specs.declared.answer.CheckAnswer.{CheckAnswer}
 use Rattle.normal_form.specs.CheckAnswer.{checked_number, checked_result}
-use Rattle.operations.specs.declared.answer.Built.{Built}
-use Rattle.operations.specs.Built.{built_number, built_result}
-use Rattle.raw_lists.specs.declared.answer.RawOpened.{RawOpened}
-use Rattle.raw_lists.specs.RawOpened.{raw_number}
+use Rattle.operations.specs.Built.{Built, built_number, built_result}
+use Rattle.raw_lists.specs.RawOpened.{RawOpened, raw_number}
 use Rattle.sheet.specs.declared.answers.Answer.{Answer}
 use Rattle.reading.specs.declared.answer.Read.{Read}
 use Rattle.reading.specs.Read.{read_number, read_result}
-use Rattle.store.specs.declared.answer.Opened.{Opened}
-use Rattle.store.specs.Opened.{open_number}
+use Rattle.store.specs.Opened.{Opened, open_number}
 use Rattle.verdicts.specs.declared.answer.Verdict.{Verdict}
 use Rattle.verdicts.specs.Verdict.{verdict_number, verdict_result}
 use Rattle.writing.specs.declared.answer.Written.{Written}

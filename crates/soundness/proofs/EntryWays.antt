@@ -1,61 +1,18 @@
--- What the rules of an entry say on each way through the code: the tests on that way decide the definition's own tests.
-use Prim.Native.Nat.{ℕ, ◌+◌, ◌-◌, ◌≤◌, ◌<◌}
-use mathlib.Core.Path.{◌≡◌, ◌∙◌, ap, ap₂, sym}
+-- What the rules of an entry say on each way through the code, and that an entry whose numbers keep their rules names entries before it alone.
+use Prim.Native.Nat.{ℕ, ◌+◌, ◌-◌, ◌<◌}
+use mathlib.Core.Path.{◌≡◌, ◌∙◌, ap, sym}
 use mathlib.Core.Bool.{Bool, true, false, not, ◌&&◌, and-false}
 use mathlib.Core.List.{List}
 use native.Mathlib.Omega.{arith}
-use borrow.Author.Tests.{lt-ltb, le-ltb, le-leb, lt-leb, ltb-true}
+use borrow.Author.Tests.{ltb-true}
 use lib.Dec.{eqb, leb, ltb}
 use Rattle.index.specs.Needs.{EntriesFit}
 use Rattle.soundness.specs.Needs.{numbers_sound, NamesEntry}
 use Rattle.store.specs.declared.entries.Entry.{Entry}
 use Rattle.store.specs.Layout.{question_count, entry, leaves}
-use Rattle.store.specs.Needs.{EntryFrom}
-use Rattle.store.specs.Sound.{asks_before, entry_sound, all_below}
+use Rattle.store.specs.Sound.{asks_before, entry_sound}
 use Rattle.index.proofs.IndexLaws.{entry_in}
-use Rattle.store.proofs.Tests.{first_passes, second_passes, all_below_none, all_below_more, all_below_fails}
-
--- ---- the entry that a handle names
-pub named_in : (s : List ℕ) (start handle : ℕ) → NamesEntry s start handle → leaves ≤ handle → EntryFrom s start (handle - leaves)
-named_in s start handle n h = n.named h
-
-module _ (s : List ℕ) (e : Entry) (handle : ℕ) where
-  pub leaf_passes : handle < leaves → true ≡ asks_before s e handle
-  leaf_passes h = simp (lt-ltb handle leaves h)
-
-  pub asks_later : {d : Entry} → leaves ≤ handle → d ≡ entry s (handle - leaves) → ltb e.question d.question ≡ asks_before s e handle
-  asks_later h ed = ap (λ (x : Entry). ltb e.question x.question) ed ∙ simp (le-ltb handle leaves h)
-
--- ---- an entry's own numbers
-module _ (questions i : ℕ) (e : Entry) where
-  pub question_zero : e.question < 1 → false ≡ numbers_sound questions i e
-  unfolding numbers_sound
-  question_zero h = simp (lt-leb 1 e.question (omega arith))
-
-  pub question_high : questions < e.question → false ≡ numbers_sound questions i e
-  unfolding numbers_sound
-  question_high h = simp (lt-leb e.question questions (omega arith), and-false)
-
-  module _ {y : ℕ} (ey : y ≡ e.yes) where
-    pub yes_high : i + leaves ≤ y → false ≡ numbers_sound questions i e
-    unfolding numbers_sound
-    yes_high h = simp (le-ltb e.yes (i + leaves) (omega arith), and-false)
-
-    module _ {n : ℕ} (en : n ≡ e.no) where
-      pub no_high : i + leaves ≤ n → false ≡ numbers_sound questions i e
-      unfolding numbers_sound
-      no_high h = simp (le-ltb e.no (i + leaves) (omega arith), and-false)
-
-      pub by_difference : 1 ≤ e.question → e.question ≤ questions → y < i + leaves → n < i + leaves → not (eqb y n) ≡ numbers_sound questions i e
-      unfolding numbers_sound
-      by_difference low high hy hn =
-          ap₂ (λ (a b : ℕ). not (eqb a b)) ey en
-          ∙ simp (
-            le-leb 1 e.question (omega arith),
-            le-leb e.question questions (omega arith),
-            lt-ltb e.yes (i + leaves) (omega arith),
-            lt-ltb e.no (i + leaves) (omega arith),
-          )
+use Rattle.store.proofs.Tests.{first_passes, second_passes}
 
 -- ---- an entry
 third_fourth : (a b c d e : Bool) → (a && b && c && d && e) ≡ true → (c ≡ true) × (d ≡ true)
@@ -102,22 +59,3 @@ module _ (s : List ℕ) (i : ℕ) {questions : ℕ} {e : Entry} (ee : e ≡ entr
 
     pub by_no : b ≡ true → a ≡ true → {n : ℕ} {c : Bool} → n ≡ e.no → c ≡ asks_before s e n → c ≡ entry_sound s i
     by_no t ta en ec = ec ∙ ap (asks_before s e) en ∙ rw (← entry_parts, ← eb, t, yes_asks ta)
-
--- ---- the entries, one after the other
-module _ (s : List ℕ) (used : ℕ) where
-  -- the entries before the i-th keep their rules
-  abbrev pub Passed : ℕ → Type 0
-  Passed i = all_below i (entry_sound s) ≡ true
-
-  pub passed_none : Passed 0
-  passed_none = all_below_none (entry_sound s)
-
-  module _ (i : ℕ) {b : Bool} (eb : b ≡ entry_sound s i) where
-    pub passed_more : b ≡ true → Passed i → Passed (i + 1)
-    passed_more t e = all_below_more (entry_sound s) e (sym eb ∙ t)
-
-    pub entry_fails : b ≡ false → i < used → false ≡ all_below used (entry_sound s)
-    entry_fails d h = sym (all_below_fails (entry_sound s) used i h (sym eb ∙ d))
-
-  pub all_passed : {i : ℕ} → i ≤ used → used ≤ i → Passed i → true ≡ all_below used (entry_sound s)
-  all_passed {i} h l e = let d : i ≡ used = omega arith in sym (rw d at e)

@@ -1,7 +1,7 @@
 // Whether a store is sound: the test that every later operation makes first.
 #![tactic(auto)]
 
-ghost use Rattle.std.specs.Prelude.{◌≡◌, ◌+◌, ◌<◌, drop};
+ghost use Rattle.std.specs.Prelude.{◌≡◌, ◌+◌, ◌<◌, ◌≤◌, drop, length};
 ghost use Rattle.index.specs.Needs.{EntriesFit};
 ghost use Rattle.soundness.specs.Needs.{numbers_sound, body_sound, NamesEntry};
 ghost use Rattle.store.specs.Sound as spec;
@@ -9,35 +9,31 @@ ghost use Rattle.terms.specs.Limits.{most_entries};
 ghost use Rattle.terms.specs.Needs.{FitLimits};
 
 use store::{
-    Entry, HEADING, LEAVES, entries_start, entry_from, field_count, is_accepted, list_fault,
-    question_count, room, store_order, used, wide,
+    Entry, HEADING, LEAVES, entries_start, entry_from, field_count, list_fault, question_count,
+    room, store_order, used, wide,
 };
-use terms::{Limits, NamedOrder, order_named, terms_within};
+use terms::{Limits, ListOrder, terms_within};
 
 // Whether n, q and the list keep their rules, in the order that the store names, and the list lies within the words.
+#[tactic(auto, unfolding(store::specs::Sound::heading_sound, store::specs::Sound::list_sound))]
 fn heading_sound(limits: Limits, s: &[u32]) -> bool
     ensures { result ≡ spec.heading_sound limits s.now }
 {
     if s.len() < HEADING {
         return false;
     }
-    let terms = limits.terms;
     let n = field_count(s);
-    if terms.field.0 < n {
+    if limits.terms.field.0 < n || limits.questions < question_count(s) {
         return false;
     }
-    if limits.questions < question_count(s) {
-        return false;
-    }
-    let start = HEADING;
     let end = entries_start(s);
     if s.len() < end {
         return false;
     }
-    let NamedOrder::Known(order) = order_named(store_order(s)) else {
+    let Ok(order) = ListOrder::try_from(store_order(s)) else {
         return false;
     };
-    is_accepted(list_fault(order, terms_within(limits, n), &s[start..end]))
+    list_fault(order, terms_within(limits, n), &s[HEADING..end]).is_ok()
 }
 
 // Whether a handle that an entry names is a leaf, or names an entry with a larger question number.
@@ -45,31 +41,18 @@ fn asks_before(s: &[u32], start: usize, e: Entry, handle: usize) -> bool
     requires { NamesEntry s.now start handle }
     ensures { result ≡ spec.asks_before s.now e handle }
 {
-    if handle < LEAVES {
-        return true;
-    }
-    e.question < entry_from(s, start, handle - LEAVES).question
+    handle < LEAVES || e.question < entry_from(s, start, handle - LEAVES).question
 }
 
 // Whether the question number of the i-th entry is one of so many questions, and its handles are smaller than its own and differ.
+#[tactic(auto, unfolding(crate::specs::Needs::numbers_sound))]
 fn numbers_sound(questions: u32, i: usize, e: Entry) -> bool
     requires { i < most_entries }
     ensures { result ≡ numbers_sound questions i e }
 {
-    if e.question < 1 {
-        return false;
-    }
-    if questions < e.question {
-        return false;
-    }
-    let y = wide(e.yes);
-    if y < i + LEAVES {
-        let n = wide(e.no);
-        if n < i + LEAVES {
-            return y != n;
-        }
-    }
-    false
+    let own = i + LEAVES;
+    let question_listed = 1 <= e.question && e.question <= questions;
+    question_listed && wide(e.yes) < own && wide(e.no) < own && e.yes != e.no
 }
 
 // Whether the i-th entry keeps the rules of an entry.
@@ -78,12 +61,10 @@ fn entry_sound(s: &[u32], start: usize, i: usize) -> bool
     ensures { result ≡ spec.entry_sound s.now i }
 {
     let e = entry_from(s, start, i);
-    if numbers_sound(question_count(s), i, e) {
-        if asks_before(s, start, e, wide(e.yes)) {
-            return asks_before(s, start, e, wide(e.no));
-        }
+    if !numbers_sound(question_count(s), i, e) {
+        return false;
     }
-    false
+    asks_before(s, start, e, wide(e.yes)) && asks_before(s, start, e, wide(e.no))
 }
 
 // Whether each of the first `used` entries keeps the rules of an entry.
@@ -91,42 +72,26 @@ fn entries_sound(s: &[u32], start: usize, used: usize) -> bool
     requires { EntriesFit s.now start used }
     ensures { result ≡ spec.all_below used (spec.entry_sound s.now) }
 {
-    let mut i: usize = 0;
-    while i < used {
-        if entry_sound(s, start, i) {
-            i += 1;
-        } else {
-            return false;
-        }
-    }
-    true
+    (0..used).all(|i| entry_sound(s, start, i))
 }
 
 // Whether the words from a place on are zero.
 fn zero_from(s: &[u32], from: usize) -> bool
+    requires { from ≤ length s.now }
     ensures { result ≡ spec.all_zero (drop from s.now) }
 {
-    let mut at = from;
-    while at < s.len() {
-        if s[at] != 0 {
-            return false;
-        }
-        at += 1;
-    }
-    true
+    s[from..].iter().all(|word| *word == 0)
 }
 
 // Whether the first `used` entries keep their rules, no two of them are equal, and the words after them are zero.
+#[tactic(auto, unfolding(crate::specs::Needs::body_sound))]
 fn body_sound(s: &[u32], start: usize, used: usize) -> bool
     requires { EntriesFit s.now start used }
     ensures { result ≡ body_sound s.now used }
 {
-    if entries_sound(s, start, used) {
-        if index::entries_differ(s, start, used) {
-            return zero_from(s, start + 3 * used);
-        }
-    }
-    false
+    entries_sound(s, start, used)
+        && index::entries_differ::<Entry>(s, start, used)
+        && zero_from(s, start + 3 * used)
 }
 
 // Whether a store is sound within limits.
@@ -134,11 +99,9 @@ pub fn is_sound(limits: Limits, s: &[u32]) -> bool
     requires { FitLimits limits }
     ensures { result ≡ spec.sound limits s.now }
 {
-    if heading_sound(limits, s) {
-        let entries = wide(used(s));
-        if entries <= room(limits, s) {
-            return body_sound(s, entries_start(s), entries);
-        }
+    if !heading_sound(limits, s) {
+        return false;
     }
-    false
+    let entries = wide(used(s));
+    entries <= room(limits, s) && body_sound(s, entries_start(s), entries)
 }

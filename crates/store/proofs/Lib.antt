@@ -1,4 +1,5 @@
 pub mod Tests
+pub mod Ranges
 pub mod SoundFacts
 pub mod ByHandles
 pub mod SoundTree
@@ -10,9 +11,7 @@ pub mod MeaningRests
 pub mod EntryFound
 pub mod EntryAdded
 pub mod StoreGrown
-pub mod WordWays
 pub mod OpenAccepts
 pub mod OpenedWords
 pub mod OpenSound
 pub mod OpenWays
-pub mod WriteLaws

@@ -8,7 +8,7 @@ use native.Mathlib.Omega.{arith}
 use borrow.Author.Tests.{le-leb}
 use lib.ListN.{length, drop}
 use Rattle.terms.specs.declared.limits.Limits.{Limits}
-use Rattle.store.specs.declared.answer.Opened.TheVariants.{Accepted}
+use Rattle.std.specs.Prelude.{Ok}
 use Rattle.store.specs.Layout.{used, entries_start, heading_length, room}
 use Rattle.store.specs.Open.{opening, opened_words}
 use Rattle.store.specs.Sound.{all_below, all_zero, list_sound, heading_sound, differ_below, sound}
@@ -39,7 +39,7 @@ module _ (limits : Limits) (n order : ℕ) (list s : List ℕ) where
         le-leb (heading_length + 2 * (length list / 2)) words (omega arith),
       )
 
-  pub opened_sound : opening limits n order list (length s) ≡ Accepted → sound limits (opened_words n order list (length s)) ≡ true
+  pub opened_sound : opening limits n order list (length s) ≡ Ok tt → sound limits (opened_words n order list (length s)) ≡ true
   opened_sound e =
       let a = accepts limits n order list (length s) e in
       no_entries limits (opened_words n order list (length s)) (opened_heading a) (opened_used n order list (length s)) (opened_rest n order list (length s) a.even)

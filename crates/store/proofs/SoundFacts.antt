@@ -10,13 +10,12 @@ use lib.Dec.{eqb, leb, ltb}
 use lib.ListN.{length, get_or, drop}
 use lib.Seq.{get_or-drop}
 use Rattle.terms.specs.declared.limits.Limits.{Limits}
-use Rattle.store.specs.declared.answer.Opened.{Opened}
-use Rattle.store.specs.declared.answer.Opened.TheVariants.{Accepted, Refused}
+use Rattle.store.specs.Opened.{Opened, is_accepted}
+use Rattle.std.specs.Prelude.{Ok, Err}
 use Rattle.store.specs.declared.entries.Entry.{Entry}
 use Rattle.store.specs.Layout.{field_count, question_count, used, store_order, list_words, entries_start, entry, leaves, room}
 use Rattle.terms.specs.Limits.{terms_within}
 use Rattle.store.specs.Open.{list_fault}
-use Rattle.store.specs.Opened.{is_accepted}
 use Rattle.store.specs.Sound as spec
 use Rattle.store.specs.Sound.{all_below}
 use Rattle.store.specs.SoundParts.{EntryKept, Sound}
@@ -26,9 +25,9 @@ use Rattle.terms.specs.Order.{order_of, order_number}
 use Rattle.terms.proofs.Cases.{by_test, by_lt}
 use Rattle.terms.proofs.OrderNumbers.{number_names, known_says}
 
-accepted_says : (o : Opened) → is_accepted o ≡ true → o ≡ Accepted
-accepted_says Accepted e = refl
-accepted_says (Refused f) e = absurd (false≢true e)
+accepted_says : (o : Opened) → is_accepted o ≡ true → o ≡ Ok tt
+accepted_says (Ok tt) e = refl
+accepted_says (Err f) e = absurd (false≢true e)
 
 pub same_entry_says : (d e : Entry) → spec.same_entry d e ≡ true → d ≡ e
 same_entry_says d e t =
@@ -103,13 +102,13 @@ module _ (limits : Limits) (s : List ℕ) where
   abbrev list_answer : ListOrder → Opened
   list_answer order = list_fault (order_of order) (terms_within limits (field_count s)) (list_words s) (question_count s) 0
 
-  list_says : spec.list_sound limits s ≡ true → (order : ListOrder) × (store_order s ≡ order_number order) × (list_answer order ≡ Accepted)
+  list_says : spec.list_sound limits s ≡ true → (order : ListOrder) × (store_order s ≡ order_number order) × (list_answer order ≡ Ok tt)
   unfolding spec.list_sound
   list_says t =
       let known = known_says (store_order s) _ _ true t (λ e. false≢true e) in
       (known.0, known.1, accepted_says (list_answer known.0) known.2)
 
-  pub list_from : (order : ListOrder) → store_order s ≡ order_number order → list_answer order ≡ Accepted → spec.list_sound limits s ≡ true
+  pub list_from : (order : ListOrder) → store_order s ≡ order_number order → list_answer order ≡ Ok tt → spec.list_sound limits s ≡ true
   unfolding spec.list_sound
   list_from order e k = rw (e, number_names order, k)
 

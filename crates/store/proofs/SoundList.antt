@@ -14,17 +14,18 @@ use Rattle.terms.specs.Order.{Order, order_of}
 use Rattle.terms.proofs.Cases.{by_test}
 use Rattle.terms.proofs.TermKept.{TermKept, allows_says}
 use Rattle.terms.specs.declared.limits.Limits.{Limits}
-use Rattle.store.specs.declared.answer.Opened.TheVariants.{Accepted, Refused}
+use Rattle.std.specs.Prelude.{Ok, Err}
 use Rattle.store.specs.declared.answer.OpenFault.TheVariants.{OutOfLimits, NotSimplified, NotAbove}
 use Rattle.store.specs.Layout.{field_count, question_count, list_words, question_in, question}
 use Rattle.terms.specs.Limits.{terms_within}
+use Rattle.store.specs.Opened.{Opened}
 use Rattle.store.specs.Open.{above_last, question_fault, list_fault}
 use Rattle.store.proofs.OpenAccepts.{both}
 use Rattle.store.specs.SoundParts.{Sound}
 use Rattle.store.proofs.Tests.{first_passes, second_passes}
 
 module _ (order : Order) (limits : TermLimits) (words : List ℕ) where
-  pub each_accepted : (left k : ℕ) → list_fault order limits words left k ≡ Accepted → (j : ℕ) → k ≤ j → j < k + left → question_fault order limits words j ≡ Accepted
+  pub each_accepted : (left k : ℕ) → list_fault order limits words left k ≡ Ok tt → (j : ℕ) → k ≤ j → j < k + left → question_fault order limits words j ≡ Ok tt
   unfolding list_fault
   each_accepted zero k e j l h = absurd (omega arith)
   each_accepted (suc left) k e j l h =
@@ -35,13 +36,13 @@ module _ (order : Order) (limits : TermLimits) (words : List ℕ) where
       ]
 
   -- what is accepted passes the first test
-  pub accepted_allows : (k : ℕ) → question_fault order limits words k ≡ Accepted
+  pub accepted_allows : (k : ℕ) → question_fault order limits words k ≡ Ok tt
       → (allows limits (question_in words k).left && allows limits (question_in words k).right) ≡ true
   unfolding question_fault
   accepted_allows k =
       let q = question_in words k in
-      by_test (λ t. cond t (cond (is_simplified q) (cond (above_last order words k) Accepted (Refused NotAbove)) (Refused NotSimplified)) (Refused OutOfLimits) ≡ Accepted → t ≡ true)
-      (allows limits q.left && allows limits q.right) (λ _ _. refl) (λ _ e. absurd (let z : ◌≡◌ {A = ℕ} 0 1 = cc in omega arith))
+      by_test (λ t. cond t (cond (is_simplified q) (cond (above_last order words k) (Ok tt) (Err NotAbove)) (Err NotSimplified)) (Err OutOfLimits) ≡ Ok tt → t ≡ true)
+      (allows limits q.left && allows limits q.right) (λ _ _. refl) (λ _ (e : ◌≡◌ {A = Opened} (Err OutOfLimits) (Ok tt)). absurd (let z : ◌≡◌ {A = ℕ} 0 1 = cc in omega arith))
 
 pub record QuestionKept (limits : TermLimits) (q : Equation) : Type 0 where
   pub left : TermKept limits q.left

@@ -1,10 +1,9 @@
 -- What it is for a store to be sound, in plain facts.
-use Rattle.std.specs.Prelude.{ℕ, ◌+◌, ◌-◌, ◌*◌, ◌≤◌, ◌<◌, ◌≡◌, ◌≢◌, List, length, get_or}
+use Rattle.std.specs.Prelude.{ℕ, ◌+◌, ◌-◌, ◌*◌, ◌≤◌, ◌<◌, ◌≡◌, ◌≢◌, List, length, get_or, Ok}
 use Rattle.terms.specs.declared.limits.Limits.{Limits}
 use Rattle.terms.specs.Limits.{terms_within}
 use Rattle.terms.specs.declared.order.ListOrder.{ListOrder}
 use Rattle.terms.specs.Order.{order_of, order_number}
-use Rattle.store.specs.declared.answer.Opened.TheVariants.{Accepted}
 use Rattle.store.specs.declared.entries.Entry.{Entry}
 use Rattle.store.specs.Layout.{field_count, question_count, used, store_order, list_words, entries_start, entry, leaves, room}
 use Rattle.store.specs.Open.{list_fault}
@@ -28,7 +27,7 @@ pub record Sound (limits : Limits) (s : List ℕ) : Type 0 where
   pub list_in : entries_start s ≤ length s
   pub order : ListOrder
   pub order_is : store_order s ≡ order_number order
-  pub list_kept : list_fault (order_of order) (terms_within limits (field_count s)) (list_words s) (question_count s) 0 ≡ Accepted
+  pub list_kept : list_fault (order_of order) (terms_within limits (field_count s)) (list_words s) (question_count s) 0 ≡ Ok tt
   pub used_in : used s ≤ room limits s
   pub entry_kept : (i : ℕ) → i < used s → EntryKept s i
   pub entries_differ : (j i : ℕ) → j < i → i < used s → entry s j ≢ entry s i

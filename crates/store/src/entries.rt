@@ -3,12 +3,11 @@ ghost use Rattle.std.specs.Prelude.{◌≡◌};
 ghost use Rattle.store.specs.Entries as spec;
 ghost use Rattle.store.specs.Layout as layout;
 ghost use Rattle.store.specs.Needs.{HasEntry, EntryFrom, CanAppend};
-ghost use Rattle.store.specs.Sound as sound;
 
 use crate::words::{entries_start, set_used, used, wide};
 
 // A question's number, and the handles of its yes part and its no part.
-#[derive(Clone, Copy)]
+#[derive(Clone, Copy, Debug, PartialEq, Eq)]
 pub struct Entry {
     pub question: u32,
     pub yes: u32,
@@ -36,19 +35,8 @@ pub fn entry_of(s: &[u32], i: usize) -> Entry
     entry_from(s, entries_start(s), i)
 }
 
-// Whether two entries are equal.
-pub fn same_entry(d: Entry, e: Entry) -> bool
-    ensures { result ≡ sound.same_entry d e }
-{
-    if d.question == e.question {
-        if d.yes == e.yes {
-            return d.no == e.no;
-        }
-    }
-    false
-}
-
 // Writes an entry after the last.
+#[tactic(auto, unfolding(crate::specs::Entries::with_entry))]
 pub fn append(store: &mut [u32], e: Entry)
     requires { CanAppend store.old }
     ensures { store.new ≡ spec.with_entry store.old e }

@@ -6,8 +6,8 @@ mod entries;
 mod opening;
 mod words;
 
-pub use answer::{OpenFault, Opened, is_accepted, open_number};
-pub use entries::{Entry, append, entry_from, entry_of, same_entry};
+pub use answer::OpenFault;
+pub use entries::{Entry, append, entry_from, entry_of};
 pub use opening::{list_fault, open, open_within, question_in, write_opened};
 pub use words::{
     HEADING, LEAVES, clear_from, entries_start, field_count, has_handle, left_word, question_at,

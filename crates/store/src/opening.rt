@@ -6,11 +6,11 @@ ghost use Rattle.terms.specs.Limits as bounds;
 ghost use Rattle.store.specs.Open as spec;
 ghost use Rattle.store.specs.Outcome.{outcome};
 
-use crate::answer::{OpenFault, Opened};
+use crate::answer::OpenFault;
 use crate::words::{HEADING, clear_from, write_heading};
 use terms::{
-    Equation, Limits, ListOrder, NamedOrder, TermLimits, allows, is_simplified, limits_of_store,
-    order_named, precedes, term_of, terms_within,
+    Equation, Limits, ListOrder, TermLimits, allows, is_simplified, limits_of_store, precedes,
+    terms_within,
 };
 
 // The k-th question of a list of term words, counted from 0.
@@ -18,10 +18,7 @@ pub fn question_in(list: &[u32], k: usize) -> Equation
     requires { 2 * k + 2 ≤ length list.now }
     ensures { result ≡ question_in list.now k }
 {
-    Equation {
-        left: term_of(list[2 * k]),
-        right: term_of(list[2 * k + 1]),
-    }
+    Equation::of_words(list[2 * k], list[2 * k + 1])
 }
 
 // Whether the k-th question stands above the one before it in an order; the first has none before it.
@@ -29,118 +26,115 @@ fn above_last(order: ListOrder, list: &[u32], k: usize) -> bool
     requires { 2 * k + 2 ≤ length list.now }
     ensures { result ≡ spec.above_last (order_of order) list.now k }
 {
-    if k == 0 {
-        return true;
-    }
-    precedes(order, question_in(list, k - 1), question_in(list, k))
+    k == 0 || precedes(order, question_in(list, k - 1), question_in(list, k))
 }
 
 // The rule that the k-th question breaks.
-fn question_fault(order: ListOrder, limits: TermLimits, list: &[u32], k: usize) -> Opened
+#[tactic(auto, unfolding(crate::specs::Open::question_fault))]
+fn question_fault(
+    order: ListOrder,
+    limits: TermLimits,
+    list: &[u32],
+    k: usize,
+) -> Result<(), OpenFault>
     requires { 2 * k + 2 ≤ length list.now }
     ensures { result ≡ spec.question_fault (order_of order) limits list.now k }
 {
     let q = question_in(list, k);
-    if allows(limits, q.left) {
-        if allows(limits, q.right) {
-            if is_simplified(q) {
-                if above_last(order, list, k) {
-                    return Opened::Accepted;
-                }
-                return Opened::Refused(OpenFault::NotAbove);
-            }
-            return Opened::Refused(OpenFault::NotSimplified);
-        }
+    if !(allows(limits, q.left) && allows(limits, q.right)) {
+        return Err(OpenFault::OutOfLimits);
     }
-    Opened::Refused(OpenFault::OutOfLimits)
+    if !is_simplified(q) {
+        return Err(OpenFault::NotSimplified);
+    }
+    if !above_last(order, list, k) {
+        return Err(OpenFault::NotAbove);
+    }
+    Ok(())
 }
 
 // The first rule that a list of term words breaks, question by question.
-pub fn list_fault(order: ListOrder, limits: TermLimits, list: &[u32]) -> Opened
+pub fn list_fault(order: ListOrder, limits: TermLimits, list: &[u32]) -> Result<(), OpenFault>
     ensures { result ≡ spec.list_fault (order_of order) limits list.now (length list.now / 2) 0 }
 {
-    let mut k: usize = 0;
-    while k < list.len() / 2 {
-        let fault = question_fault(order, limits, list, k);
-        let Opened::Accepted = fault else {
-            return fault;
-        };
-        k += 1;
+    for k in 0..list.len() / 2 {
+        question_fault(order, limits, list, k)?;
     }
-    Opened::Accepted
+    Ok(())
 }
 
 // What opening a store of so many words answers about a list in an order.
-fn opening_in(order: ListOrder, limits: Limits, n: u32, list: &[u32], words: usize) -> Opened
+#[tactic(auto, unfolding(crate::specs::Open::opening_in))]
+fn opening_in(
+    order: ListOrder,
+    limits: Limits,
+    n: u32,
+    list: &[u32],
+    words: usize,
+) -> Result<(), OpenFault>
     ensures { result ≡ spec.opening_in order limits n list.now words }
 {
     if list.len() % 2 == 1 {
-        return Opened::Refused(OpenFault::OddList);
+        return Err(OpenFault::OddList);
     }
     if (limits.questions as usize) < list.len() / 2 {
-        return Opened::Refused(OpenFault::TooManyQuestions);
+        return Err(OpenFault::TooManyQuestions);
     }
-    let fault = list_fault(order, terms_within(limits, n), list);
-    let Opened::Accepted = fault else {
-        return fault;
-    };
+    list_fault(order, terms_within(limits, n), list)?;
     if words < HEADING + list.len() {
-        return Opened::Refused(OpenFault::TooShort);
+        return Err(OpenFault::TooShort);
     }
-    Opened::Accepted
+    Ok(())
 }
 
 // What opening a store of so many words answers.
-fn first_fault(limits: Limits, n: u32, order: u32, list: &[u32], words: usize) -> Opened
+#[tactic(auto, unfolding(crate::specs::Open::opening))]
+fn first_fault(
+    limits: Limits,
+    n: u32,
+    order: u32,
+    list: &[u32],
+    words: usize,
+) -> Result<(), OpenFault>
     ensures { result ≡ spec.opening limits n order list.now words }
 {
     if limits.terms.field.0 < n {
-        return Opened::Refused(OpenFault::TooManyFields);
+        return Err(OpenFault::TooManyFields);
     }
-    let NamedOrder::Known(known) = order_named(order) else {
-        return Opened::Refused(OpenFault::UnknownOrder);
-    };
+    let known = ListOrder::try_from(order)?;
     opening_in(known, limits, n, list, words)
 }
 
-// Writes the list behind the heading.
-fn write_list(list: &[u32], store: &mut [u32])
-    requires { heading_length + length list.now ≤ length store.old }
-    ensures { store.new
-        ≡ take heading_length store.old ++ list.now ++ drop (heading_length + length list.now) store.old }
-{
-    let mut i: usize = 0;
-    while i < list.len() {
-        store[HEADING + i] = list[i];
-        i += 1;
-    }
-}
-
 // Writes a store with no entries.
+#[tactic(auto, unfolding(crate::specs::Open::opened_words))]
 pub fn write_opened(n: u32, order: u32, list: &[u32], store: &mut [u32])
     requires list_in_bounds { heading_length + length list.now ≤ length store.old }
     requires list_len_bound { length list.now / 2 < 2 ^ 32 }
     ensures { store.new ≡ spec.opened_words n order list.now (length store.old) }
 {
     write_heading(n, (list.len() / 2) as u32, order, store);
-    write_list(list, store);
+    store[HEADING..HEADING + list.len()].copy_from_slice(list);
     clear_from(store, HEADING + list.len());
 }
 
 // Opens a store within limits.
-pub fn open_within(limits: Limits, n: u32, order: u32, list: &[u32], store: &mut [u32]) -> Opened
+#[tactic(auto, unfolding(crate::specs::Open::open_store))]
+pub fn open_within(
+    limits: Limits,
+    n: u32,
+    order: u32,
+    list: &[u32],
+    store: &mut [u32],
+) -> Result<(), OpenFault>
     ensures { outcome result store.new ≡ spec.open_store limits n order list.now store.old }
 {
-    let answer = first_fault(limits, n, order, list, store.len());
-    let Opened::Accepted = answer else {
-        return answer;
-    };
+    first_fault(limits, n, order, list, store.len())?;
     write_opened(n, order, list, store);
-    Opened::Accepted
+    Ok(())
 }
 
 // Opens a store for n fields and a list of questions in the order that a number names.
-pub fn open(n: u32, order: u32, list: &[u32], store: &mut [u32]) -> Opened
+pub fn open(n: u32, order: u32, list: &[u32], store: &mut [u32]) -> Result<(), OpenFault>
     ensures { outcome result store.new ≡ spec.open_store bounds.store_limits n order list.now store.old }
 {
     open_within(limits_of_store(), n, order, list, store)

@@ -3,7 +3,7 @@ ghost use Rattle.std.specs.Prelude.{◌≡◌, ◌∷◌, ◌+◌, ◌≤◌, le
 ghost use Rattle.store.specs.Layout as layout;
 ghost use Rattle.store.specs.Needs.{HasQuestion};
 
-use terms::{Equation, Limits, term_of};
+use terms::{Equation, Limits};
 
 // The words before the list: n, the number of questions, the entries used, and the order.
 pub const HEADING: usize = 4;
@@ -98,10 +98,7 @@ pub fn question_at(s: &[u32], k: usize) -> Equation
     requires { HasQuestion s.now k }
     ensures { result ≡ layout.question s.now k }
 {
-    Equation {
-        left: term_of(left_word(s, k)),
-        right: term_of(right_word(s, k)),
-    }
+    Equation::of_words(left_word(s, k), right_word(s, k))
 }
 
 // Where the entries begin.
@@ -118,8 +115,7 @@ pub fn room(limits: Limits, s: &[u32]) -> usize
     ensures { result ≡ layout.room limits s.now }
 {
     let fit = (s.len() - entries_start(s)) / 3;
-    let most = wide(limits.entries);
-    if fit < most { fit } else { most }
+    fit.min(wide(limits.entries))
 }
 
 // Writes zeros from a word on.
@@ -127,9 +123,5 @@ pub fn clear_from(store: &mut [u32], start: usize)
     requires { start ≤ length store.old }
     ensures { store.new ≡ layout.cleared_from store.old start }
 {
-    let mut i = start;
-    while i < store.len() {
-        store[i] = 0;
-        i += 1;
-    }
+    store[start..].fill(0);
 }

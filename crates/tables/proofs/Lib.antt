@@ -3,6 +3,5 @@ pub mod RowTruths
 pub mod FormedRows
 pub mod ListedTruth
 pub mod TableTaken
-pub mod DecodeWays
 pub mod ListWays
 pub mod FaultWays

@@ -1,8 +1,6 @@
 -- What is wrong with a rule table, and its numbers (document 01, "Who can cause which refusal", the rule's author).
-use Rattle.std.specs.Prelude.{ℕ}
+use Rattle.std.specs.Prelude.{ℕ, Result, Ok, Err}
 use Rattle.std.proofs.Math.Option.{Option, none, some}
-use Rattle.tables.specs.declared.answer.Checked.{Checked}
-use Rattle.tables.specs.declared.answer.Checked.TheVariants.{Fine, Refused}
 use Rattle.tables.specs.declared.answer.TableFault.{TableFault}
 use Rattle.tables.specs.declared.answer.TableFault.TheVariants.{NoWords, NotRows, TooManyRows, BadRow, OutOfLimits, NotListed}
 
@@ -17,7 +15,11 @@ table_fault_number BadRow = 34
 table_fault_number OutOfLimits = 35
 table_fault_number NotListed = 36
 
+-- what a test of a table answers: nothing more where nothing is wrong, or the first fault
+abbrev pub Checked : Type 0
+Checked = Result Unit TableFault
+
 -- the code's answer for a fault, or for none
 abbrev pub checked : Option TableFault → Checked
-checked none = Fine
-checked (some f) = Refused f
+checked none = Ok tt
+checked (some f) = Err f

@@ -2,15 +2,10 @@
 ghost use Rattle.std.specs.Prelude.{◌≡◌};
 ghost use Rattle.tables.specs.TableFault as spec;
 
-// What a test of a table answers: that nothing is wrong, or the first fault.
-#[derive(Clone, Copy)]
-pub enum Checked {
-    Fine,
-    Refused(TableFault),
-}
+use terms::Refusal;
 
 // A rule that a table breaks.
-#[derive(Clone, Copy)]
+#[derive(Clone, Copy, Debug, PartialEq, Eq)]
 pub enum TableFault {
     NoWords,
     NotRows,
@@ -20,16 +15,17 @@ pub enum TableFault {
     NotListed,
 }
 
-// The number of a fault.
-pub fn table_fault_number(f: TableFault) -> u32
-    ensures { result ≡ spec.table_fault_number f }
-{
-    match f {
-        TableFault::NoWords => 31,
-        TableFault::NotRows => 32,
-        TableFault::TooManyRows => 33,
-        TableFault::BadRow => 34,
-        TableFault::OutOfLimits => 35,
-        TableFault::NotListed => 36,
+impl Refusal for TableFault {
+    ghost number_of = { spec.table_fault_number };
+
+    fn number(self) -> u32 {
+        match self {
+            TableFault::NoWords => 31,
+            TableFault::NotRows => 32,
+            TableFault::TooManyRows => 33,
+            TableFault::BadRow => 34,
+            TableFault::OutOfLimits => 35,
+            TableFault::NotListed => 36,
+        }
     }
 }

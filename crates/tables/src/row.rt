@@ -8,7 +8,7 @@ pub const ROW_LENGTH: usize = 4;
 pub const MOST_ROWS: usize = 256;
 
 // A kind and three columns.
-#[derive(Clone, Copy)]
+#[derive(Clone, Copy, Debug, PartialEq, Eq)]
 pub struct Row {
     pub kind: u32,
     pub a: u32,

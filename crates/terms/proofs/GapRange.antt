@@ -8,20 +8,21 @@ use Rattle.terms.specs.declared.limits.TermLimits.{TermLimits}
 use Rattle.terms.specs.declared.simplification.Guard.{Guard}
 use Rattle.terms.specs.declared.simplification.Guard.TheVariants.{Never, Always, Question}
 use Rattle.terms.specs.declared.simplification.Simplified.{Simplified}
-use Rattle.terms.specs.declared.simplification.Simplified.TheVariants.{Refused}
+use Rattle.terms.specs.declared.simplification.OutOfLimits.{OutOfLimits}
+use Rattle.std.specs.Prelude.{Result, Ok}
 use Rattle.terms.specs.declared.term.Equation.{Equation}
 use Rattle.terms.specs.Limits.{term_limits}
-use Rattle.terms.specs.Simplify.{simplify, gap, shown, simplify_words, answer}
+use Rattle.terms.specs.Simplify.{simplify, gap, shown, refused, simplify_words, answer}
 use Rattle.terms.specs.Words.{equation, term_of, allows}
 use Rattle.terms.proofs.Cases.{by_test}
 use Rattle.terms.proofs.SimplifyForm.{gap_within}
 use Rattle.terms.proofs.TermKept.{allows_says}
 
 -- the gap that an answer shows, 0 beside all but a question, without its sign
-abbrev shown_gap : Simplified → ℕ
+abbrev shown_gap : Result Simplified OutOfLimits → ℕ
 shown_gap a = nat_abs (answer a).gap
 
-shown_within : (n : ℕ) (g : Guard) → ((q : Equation) → g ≡ Question q → nat_abs (gap q) ≤ n) → shown_gap (shown g) ≤ n
+shown_within : (n : ℕ) (g : Guard) → ((q : Equation) → g ≡ Question q → nat_abs (gap q) ≤ n) → shown_gap (Ok (shown g)) ≤ n
 shown_within n Never h = omega arith
 shown_within n Always h = omega arith
 shown_within n (Question q) h = h q refl
@@ -30,8 +31,8 @@ shown_within n (Question q) h = h q refl
 pub answer_gap_within : (limits : TermLimits) (l r : ℕ) → nat_abs (answer (simplify_words limits l r)).gap ≤ limits.steps.0
 unfolding simplify_words
 answer_gap_within limits l r =
-    by_test (λ t. shown_gap (cond (t && allows limits (term_of r)) (shown (simplify e)) Refused) ≤ n) (allows limits (term_of l))
-    (λ a. by_test (λ t. shown_gap (cond t (shown (simplify e)) Refused) ≤ n) (allows limits (term_of r))
+    by_test (λ t. shown_gap (cond (t && allows limits (term_of r)) (Ok (shown (simplify e))) refused) ≤ n) (allows limits (term_of l))
+    (λ a. by_test (λ t. shown_gap (cond t (Ok (shown (simplify e))) refused) ≤ n) (allows limits (term_of r))
     (λ b. shown_within n (simplify e) (λ q s. gap_within n e q (allows_says limits (term_of l) a).steps_in (allows_says limits (term_of r) b).steps_in s))
     (λ _. omega arith))
     (λ _. omega arith)

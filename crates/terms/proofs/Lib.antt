@@ -10,8 +10,7 @@ pub mod GapRange
 pub mod Numbers
 pub mod OneSpelling
 pub mod QuestionOrder
+pub mod ListsCompared
 pub mod OrderNumbers
-pub mod OrderWays
-pub mod QuestionWays
+pub mod SimplifyWords
 pub mod TermWords
-pub mod Ways

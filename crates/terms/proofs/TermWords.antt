@@ -3,6 +3,7 @@ use Prim.Native.Nat.{ℕ, ◌<◌}
 use mathlib.Core.Path.{◌≡◌, refl, sym, ◌∙◌, subst}
 use mathlib.Core.Logic.{◌↔◌}
 use mathlib.Core.Bool.{Bool, true, cond, ◌&&◌}
+use Rattle.std.specs.Prelude.{Ok}
 use native.Mathlib.Omega.{arith}
 use lib.IntN.{pos, ◌+ℤ◌}
 use Rattle.terms.specs.declared.term.Term.{Term}
@@ -10,9 +11,8 @@ use Rattle.terms.specs.declared.limits.TermLimits.{TermLimits}
 use Rattle.terms.specs.declared.term.Equation.{Equation}
 use Rattle.terms.specs.declared.simplification.Guard.{Guard}
 use Rattle.terms.specs.declared.simplification.Guard.TheVariants.{Never, Always, Question}
-use Rattle.terms.specs.declared.simplification.Simplified.TheVariants as answer
 use Rattle.terms.specs.Meaning.{Valuation, count, truth, guard_truth, Tells}
-use Rattle.terms.specs.Simplify.{simplify, gap, shown, simplify_words}
+use Rattle.terms.specs.Simplify.{simplify, gap, shown, refused, simplify_words}
 use Rattle.terms.specs.Words.{step_weight, field, steps, term, equation, term_of, word_of, allows}
 use Rattle.terms.proofs.Cases.{by_test}
 use Rattle.terms.proofs.SimplifyForm.{simplify_keeps}
@@ -41,7 +41,7 @@ simplify_wordy = simplify_keeps (λ t. t.field.0 < step_weight) (λ _ _ h. h)
 pub equation_of_words : (q : Equation) → Wordy q → equation (term_of (word_of q.left)) (term_of (word_of q.right)) ≡ q
 equation_of_words q w = λ i. equation (term_of_word_of q.left w.0 i) (term_of_word_of q.right w.1 i)
 
-shown_tells : (v : Valuation) (g : Guard) (b : Bool) → ((q : Equation) → g ≡ Question q → Wordy q) → guard_truth v g ≡ b → Tells v (shown g) b
+shown_tells : (v : Valuation) (g : Guard) (b : Bool) → ((q : Equation) → g ≡ Question q → Wordy q) → guard_truth v g ≡ b → Tells v (Ok (shown g)) b
 shown_tells v Never b w e = sym e
 shown_tells v Always b w e = sym e
 shown_tells v (Question q) b w e =
@@ -54,7 +54,7 @@ pub simplify_words_tells : (limits : TermLimits) (l r : ℕ) (v : Valuation)
     → Tells v (simplify_words limits l r) (truth v (equation (term_of l) (term_of r)))
 unfolding simplify_words
 simplify_words_tells limits l r v =
-    by_test (λ t. Tells v (cond t (shown (simplify e)) answer.Refused) (truth v e)) (allows limits (term_of l) && allows limits (term_of r))
+    by_test (λ t. Tells v (cond t (Ok (shown (simplify e))) refused) (truth v e)) (allows limits (term_of l) && allows limits (term_of r))
     (λ _. shown_tells v (simplify e) (truth v e) (λ q. simplify_wordy e q (omega arith) (omega arith)) (simplify_truth v e)) (λ _. tt)
   where
     e : Equation

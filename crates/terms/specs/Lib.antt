@@ -1,3 +1,4 @@
+pub mod Refusal
 pub mod Words
 pub mod Limits
 pub mod Meaning

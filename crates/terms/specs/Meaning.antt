@@ -1,5 +1,5 @@
 -- What terms and equations mean (document 000, section 2.2).
-use Rattle.std.specs.Prelude.{ℕ, ◌+◌, ◌≡◌, ◌↔◌, Bool, true, false, cond, eqb, pos, ◌+ℤ◌}
+use Rattle.std.specs.Prelude.{ℕ, ◌+◌, ◌≡◌, ◌↔◌, Bool, true, false, cond, eqb, pos, ◌+ℤ◌, Result, Ok, Err}
 use Rattle.terms.specs.declared.term.Field.{Field}
 use Rattle.terms.specs.declared.term.Term.{Term}
 use Rattle.terms.specs.declared.term.Equation.{Equation}
@@ -7,6 +7,7 @@ use Rattle.terms.specs.declared.simplification.Guard.{Guard}
 use Rattle.terms.specs.declared.simplification.Guard.TheVariants.{Never, Always, Question}
 use Rattle.terms.specs.declared.simplification.Simplified.{Simplified}
 use Rattle.terms.specs.declared.simplification.Simplified.TheVariants as answer
+use Rattle.terms.specs.declared.simplification.OutOfLimits.{OutOfLimits}
 use Rattle.terms.specs.Words.{equation, term_of}
 
 -- A choice of counts (document 01), there a valuation v : V → ℕ: a natural number for each field, with no bound.
@@ -34,10 +35,10 @@ guard_truth v (Question e) = truth v e
 
 -- What an answer of simplify says of an equation that has this truth: a refusal nothing; a question, that it has the same truth
 -- and that the truth is "left count = right count + gap".
-abbrev pub Tells : Valuation → Simplified → Bool → Type 0
-Tells v answer.Refused b = Unit {0}
-Tells v answer.Never b = b ≡ false
-Tells v answer.Always b = b ≡ true
-Tells v (answer.Question l r gap) b =
+abbrev pub Tells : Valuation → Result Simplified OutOfLimits → Bool → Type 0
+Tells v (Err fault) b = Unit {0}
+Tells v (Ok answer.Never) b = b ≡ false
+Tells v (Ok answer.Always) b = b ≡ true
+Tells v (Ok (answer.Question l r gap)) b =
     (truth v (equation (term_of l) (term_of r)) ≡ b)
     × ((b ≡ true) ↔ (pos (count v (term_of l).field) ≡ pos (count v (term_of r).field) +ℤ gap))

@@ -1,6 +1,5 @@
 -- What the code relies on, and no claim.
-use Rattle.std.specs.Prelude.{ℕ, ◌+◌, ◌*◌, ◌≤◌, ◌<◌, ◌^◌, List, [], ◌∷◌}
-use Rattle.terms.specs.declared.order.Compared.{Compared}
+use Rattle.std.specs.Prelude.{◌+◌, ◌*◌, ◌≤◌, ◌<◌, ◌^◌}
 use Rattle.terms.specs.declared.simplification.Guard.{Guard}
 use Rattle.terms.specs.declared.simplification.Guard.TheVariants as guard
 use Rattle.terms.specs.declared.limits.Limits.{Limits}
@@ -19,7 +18,3 @@ abbrev pub HasWords : Guard → Type 0
 HasWords guard.Never = Unit {0}
 HasWords guard.Always = Unit {0}
 HasWords (guard.Question e) = (word_of e.left < 2 ^ 32) × (word_of e.right < 2 ^ 32)
-
--- compared numbers as a list
-abbrev pub compared_numbers : Compared → List ℕ
-compared_numbers c = c.first ∷ c.second ∷ c.third ∷ c.fourth ∷ []

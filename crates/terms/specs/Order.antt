@@ -1,9 +1,8 @@
 -- The orders of questions (document 01, "Question order"; document 000, Definition 27; document 02, ix).
-use Rattle.std.specs.Prelude.{ℕ, ◌≡◌, ◌≢◌, ◌⊎◌, Bool, true, false, cond, ◌&&◌, ◌||◌, List, [], ◌∷◌, eqb, ltb}
+use Rattle.std.specs.Prelude.{ℕ, ◌≡◌, ◌≢◌, ◌⊎◌, Bool, true, false, cond, ◌&&◌, ◌||◌, List, [], ◌∷◌, eqb, ltb, Result, Ok, Err}
 use Rattle.terms.specs.declared.order.ListOrder.{ListOrder}
 use Rattle.terms.specs.declared.order.ListOrder.TheVariants.{FieldsFirst, LeftFirst}
-use Rattle.terms.specs.declared.order.NamedOrder.{NamedOrder}
-use Rattle.terms.specs.declared.order.NamedOrder.TheVariants.{Known, Unknown}
+use Rattle.terms.specs.declared.order.UnknownOrder.{UnknownOrder}
 use Rattle.terms.specs.declared.term.Equation.{Equation}
 
 -- "compared in that order": the first numbers that differ decide
@@ -43,13 +42,20 @@ abbrev pub order_number : ListOrder → ℕ
 order_number FieldsFirst = 0
 order_number LeftFirst = 1
 
+-- what a number names: an order, or none
+abbrev pub Named : Type 0
+Named = Result ListOrder UnknownOrder
+
+abbrev pub unknown : Named
+unknown = Err (record {})
+
 -- the order that has a number; any other number names none
-unfoldable pub order_named : ℕ → NamedOrder
+unfoldable pub order_named : ℕ → Named
 order_named k =
-    cond (eqb k (order_number FieldsFirst)) (Known FieldsFirst)
-    (cond (eqb k (order_number LeftFirst)) (Known LeftFirst) Unknown)
+    cond (eqb k (order_number FieldsFirst)) (Ok FieldsFirst)
+    (cond (eqb k (order_number LeftFirst)) (Ok LeftFirst) unknown)
 
 -- What comes of a number that names an order, and of one that names none.
-abbrev pub if_known : {A : Type 0} → NamedOrder → (ListOrder → A) → A → A
-if_known (Known order) next stop = next order
-if_known Unknown next stop = stop
+abbrev pub if_known : {A : Type 0} → Named → (ListOrder → A) → A → A
+if_known (Ok order) next stop = next order
+if_known (Err none) next stop = stop

@@ -1,5 +1,5 @@
 -- Simplifying an equation of two terms (document 01, "Simplifying an equation of two terms"; document 000, Definition 24).
-use Rattle.std.specs.Prelude.{ℕ, ◌-◌, min, cond, ◌&&◌, eqb, ltb, ℤ, pos, ◌-ℤ◌}
+use Rattle.std.specs.Prelude.{ℕ, ◌-◌, min, cond, ◌&&◌, eqb, ltb, ℤ, pos, ◌-ℤ◌, Result, Ok, Err}
 use Rattle.terms.specs.declared.term.Term.{Term}
 use Rattle.terms.specs.declared.limits.TermLimits.{TermLimits}
 use Rattle.terms.specs.declared.term.Equation.{Equation}
@@ -7,7 +7,8 @@ use Rattle.terms.specs.declared.simplification.Guard.{Guard}
 use Rattle.terms.specs.declared.simplification.Guard.TheVariants as guard
 use Rattle.terms.specs.declared.simplification.SimplifyAnswer.{SimplifyAnswer}
 use Rattle.terms.specs.declared.simplification.Simplified.{Simplified}
-use Rattle.terms.specs.declared.simplification.Simplified.TheVariants.{Refused, Never, Always, Question}
+use Rattle.terms.specs.declared.simplification.Simplified.TheVariants.{Never, Always, Question}
+use Rattle.terms.specs.declared.simplification.OutOfLimits.{OutOfLimits}
 use Rattle.terms.specs.Words.{steps, term, equation, term_of, word_of, allows}
 
 -- the equation written the other way round
@@ -48,19 +49,25 @@ shown guard.Never = Never
 shown guard.Always = Always
 shown (guard.Question e) = Question (word_of e.left) (word_of e.right) (gap e)
 
+-- "Simplify gives 35 too"
+abbrev pub limits_fault_number : OutOfLimits → ℕ
+limits_fault_number fault = 35
+
+abbrev pub refused : Result Simplified OutOfLimits
+refused = Err (record {})
+
 -- The operation, on any two words: refused if one of the two terms is not within the limits.
-unfoldable pub simplify_words : TermLimits → ℕ → ℕ → Simplified
+unfoldable pub simplify_words : TermLimits → ℕ → ℕ → Result Simplified OutOfLimits
 simplify_words limits l r =
-    cond (allows limits (term_of l) && allows limits (term_of r)) (shown (simplify (equation (term_of l) (term_of r)))) Refused
+    cond (allows limits (term_of l) && allows limits (term_of r)) (Ok (shown (simplify (equation (term_of l) (term_of r))))) refused
 
 -- "An answer is a number and a result. ... On refusal the result is 0": an answer with no question beside it
 abbrev pub plain : ℕ → ℕ → SimplifyAnswer
 plain number result = record { number = number; result = result; left = 0; right = 0; gap = pos 0 }
 
 -- "Simplify's result is 0 never, 1 always or 2 a question, with two words and a gap beside it that are zero unless it is 2."
--- "Simplify gives 35 too"
-abbrev pub answer : Simplified → SimplifyAnswer
-answer Refused = plain 35 0
-answer Never = plain 0 0
-answer Always = plain 0 1
-answer (Question l r g) = record { number = 0; result = 2; left = l; right = r; gap = g }
+abbrev pub answer : Result Simplified OutOfLimits → SimplifyAnswer
+answer (Err fault) = plain (limits_fault_number fault) 0
+answer (Ok Never) = plain 0 0
+answer (Ok Always) = plain 0 1
+answer (Ok (Question l r g)) = record { number = 0; result = 2; left = l; right = r; gap = g }

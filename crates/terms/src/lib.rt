@@ -4,6 +4,7 @@
 mod limits;
 mod order;
 mod question;
+mod refusal;
 mod simplification;
 mod term;
 
@@ -11,9 +12,10 @@ pub use limits::{
     Limits, MOST_ENTRIES, MOST_FIELDS, MOST_QUESTIONS, TermLimits, limits_of_logger,
     limits_of_store, term_limits, terms_within,
 };
-pub use order::{ListOrder, NamedOrder, order_named, precedes};
+pub use order::{ListOrder, UnknownOrder, precedes};
 pub use question::is_simplified;
+pub use refusal::{Refusal, answer_number};
 pub use simplification::{
-    Guard, Simplified, SimplifyAnswer, answer_of, simplify, simplify_equation, simplify_within,
+    Guard, OutOfLimits, Simplified, SimplifyAnswer, simplify, simplify_equation, simplify_within,
 };
-pub use term::{Equation, Field, Steps, Term, allows, term_of, word_of};
+pub use term::{Equation, Field, Steps, Term, allows, word_of};

@@ -21,14 +21,14 @@ const LOGGER_QUESTIONS: u32 = 8;
 const LOGGER_ENTRIES: u32 = 200;
 
 // The largest field number and the largest step count that a term may have.
-#[derive(Clone, Copy)]
+#[derive(Clone, Copy, Debug, PartialEq, Eq)]
 pub struct TermLimits {
     pub field: Field,
     pub steps: Steps,
 }
 
 // What a store may hold: the limits of its terms, and the largest numbers of questions and of entries.
-#[derive(Clone, Copy)]
+#[derive(Clone, Copy, Debug, PartialEq, Eq)]
 pub struct Limits {
     pub terms: TermLimits,
     pub questions: u32,
@@ -49,9 +49,8 @@ pub fn term_limits() -> TermLimits
 pub fn limits_of_store() -> Limits
     ensures { result ≡ spec.store_limits }
 {
-    let terms = term_limits();
     Limits {
-        terms,
+        terms: term_limits(),
         questions: MOST_QUESTIONS,
         entries: MOST_ENTRIES,
     }
@@ -75,9 +74,8 @@ pub fn limits_of_logger() -> Limits
 pub fn terms_within(limits: Limits, n: u32) -> TermLimits
     ensures { result ≡ spec.terms_within limits n }
 {
-    let steps = limits.terms.steps;
     TermLimits {
         field: Field(n),
-        steps,
+        steps: limits.terms.steps,
     }
 }

@@ -5,28 +5,40 @@ ghost use Rattle.terms.specs.Simplify as spec;
 ghost use Rattle.terms.specs.Limits as limit;
 
 use crate::limits::{TermLimits, term_limits};
-use crate::term::{Equation, Steps, Term, allows, term_of, word_of};
+use crate::refusal::Refusal;
+use crate::term::{Equation, Steps, Term, allows, word_of};
 
 // What an equation of two terms simplifies to.
-#[derive(Clone, Copy)]
+#[derive(Clone, Copy, Debug, PartialEq, Eq)]
 pub enum Guard {
     Never,
     Always,
     Question(Equation),
 }
 
-// The answer of simplify: a question's two term words and its gap, right steps minus left steps.
-#[derive(Clone, Copy)]
+// What simplify answers: a question by its two term words and its gap, right steps minus left steps.
+#[derive(Clone, Copy, Debug, PartialEq, Eq)]
 pub enum Simplified {
-    Refused,
     Never,
     Always,
     Question { left: u32, right: u32, gap: i32 },
 }
 
+// Why simplify refuses an equation: a term is beyond the limits.
+#[derive(Clone, Copy, Debug, PartialEq, Eq)]
+pub struct OutOfLimits;
+
+impl Refusal for OutOfLimits {
+    ghost number_of = { spec.limits_fault_number };
+
+    fn number(self) -> u32 {
+        35
+    }
+}
+
 // An answer in document 01's numbers, laid out as C reads it.
 #[repr(C)]
-#[derive(Clone, Copy)]
+#[derive(Clone, Copy, Debug, PartialEq, Eq)]
 pub struct SimplifyAnswer {
     pub number: u32,
     pub result: u32,
@@ -36,13 +48,15 @@ pub struct SimplifyAnswer {
 }
 
 // The equation with its larger field on the left.
+#[tactic(auto, unfolding(crate::specs::Simplify::larger_left))]
 fn larger_left(e: Equation) -> Equation
     ensures { result ≡ spec.larger_left e }
 {
     if e.left.field.0 < e.right.field.0 {
-        let l = e.left;
-        let r = e.right;
-        Equation { left: r, right: l }
+        Equation {
+            left: e.right,
+            right: e.left,
+        }
     } else {
         e
     }
@@ -53,53 +67,45 @@ fn less_steps(k: u32, t: Term) -> Term
     requires { k ≤ t.steps.0 }
     ensures { result ≡ spec.less_steps k t }
 {
-    let f = t.field;
     Term {
-        field: f,
+        field: t.field,
         steps: Steps(t.steps.0 - k),
     }
 }
 
-// The smaller of two step counts.
-fn fewer(a: Steps, b: Steps) -> u32
-    ensures { result ≡ min a.0 b.0 }
-{
-    if a.0 <= b.0 { a.0 } else { b.0 }
-}
-
 // The equation with its smaller step count taken from both sides.
+#[tactic(auto, unfolding(crate::specs::Simplify::lowered))]
 fn lowered(e: Equation) -> Equation
     ensures { result ≡ spec.lowered e }
 {
-    let l = e.left;
-    let r = e.right;
-    let k = fewer(l.steps, r.steps);
+    let k = e.left.steps.0.min(e.right.steps.0);
     Equation {
-        left: less_steps(k, l),
-        right: less_steps(k, r),
+        left: less_steps(k, e.left),
+        right: less_steps(k, e.right),
     }
 }
 
 // Of two different fields, the larger on the left and one side with no steps: never, or a question.
+#[tactic(auto, unfolding(crate::specs::Simplify::never_or_question))]
 fn never_or_question(e: Equation) -> Guard
     ensures { result ≡ spec.never_or_question e }
 {
-    if e.right.field.0 == 0 {
-        if 0 < e.left.steps.0 {
-            return Guard::Never;
-        }
+    if e.right.field.0 == 0 && 0 < e.left.steps.0 {
+        Guard::Never
+    } else {
+        Guard::Question(e)
     }
-    Guard::Question(e)
 }
 
 // What an equation simplifies to, whatever its step counts.
+#[tactic(auto, unfolding(crate::specs::Simplify::simplify))]
 pub fn simplify_equation(e: Equation) -> Guard
     ensures { result ≡ spec.simplify e }
 {
-    if e.left.field.0 == e.right.field.0 {
-        if e.left.steps.0 == e.right.steps.0 {
-            return Guard::Always;
-        }
+    if e.left == e.right {
+        return Guard::Always;
+    }
+    if e.left.field == e.right.field {
         return Guard::Never;
     }
     never_or_question(lowered(larger_left(e)))
@@ -130,41 +136,41 @@ fn shown(g: Guard) -> Simplified
 }
 
 // Simplifies two term words within limits.
-pub fn simplify_within(limits: TermLimits, left: u32, right: u32) -> Simplified
+#[tactic(auto, using(crate::proofs::SimplifyWords::words_read), unfolding(crate::specs::Simplify::simplify_words))]
+pub fn simplify_within(limits: TermLimits, left: u32, right: u32) -> Result<Simplified, OutOfLimits>
     ensures { result ≡ spec.simplify_words limits left right }
 {
-    let l = term_of(left);
-    let r = term_of(right);
-    if allows(limits, l) {
-        if allows(limits, r) {
-            return shown(simplify_equation(Equation { left: l, right: r }));
-        }
+    let e = Equation::of_words(left, right);
+    if allows(limits, e.left) && allows(limits, e.right) {
+        return Ok(shown(simplify_equation(e)));
     }
-    Simplified::Refused
+    Err(OutOfLimits)
 }
 
 // Simplifies two term words.
-pub fn simplify(left: u32, right: u32) -> Simplified
+pub fn simplify(left: u32, right: u32) -> Result<Simplified, OutOfLimits>
     ensures { result ≡ spec.simplify_words limit.term_limits left right }
 {
     simplify_within(term_limits(), left, right)
 }
 
-// The number, result, two words and gap of an answer.
-pub fn answer_of(s: Simplified) -> SimplifyAnswer
-    ensures { result ≡ spec.answer s }
-{
-    match s {
-        Simplified::Refused => plain(35, 0),
-        Simplified::Never => plain(0, 0),
-        Simplified::Always => plain(0, 1),
-        Simplified::Question { left, right, gap } => SimplifyAnswer {
-            number: 0,
-            result: 2,
-            left,
-            right,
-            gap,
-        },
+impl From<Result<Simplified, OutOfLimits>> for SimplifyAnswer {
+    // The number, result, two words and gap of an answer.
+    fn from(answer: Result<Simplified, OutOfLimits>) -> SimplifyAnswer
+        ensures { result ≡ spec.answer answer }
+    {
+        match answer {
+            Err(fault) => plain(fault.number(), 0),
+            Ok(Simplified::Never) => plain(0, 0),
+            Ok(Simplified::Always) => plain(0, 1),
+            Ok(Simplified::Question { left, right, gap }) => SimplifyAnswer {
+                number: 0,
+                result: 2,
+                left,
+                right,
+                gap,
+            },
+        }
     }
 }
 

@@ -5,7 +5,7 @@ use mathlib.Core.Path.{◌≡◌, refl, sym, subst, ◌∙◌}
 use mathlib.Core.Logic.{◌≢◌}
 use mathlib.Core.List.{List}
 use native.Mathlib.Omega.{arith}
-use Rattle.diagram.specs.declared.placing.Placed.{Placed}
+use Rattle.std.proofs.Common.{Option}
 use Rattle.facts.specs.declared.decision.Decision.{Decision}
 use Rattle.facts.specs.declared.decision.Decision.TheVariants.{Open}
 use Rattle.facts.specs.declared.record.Facts.{Facts}
@@ -102,7 +102,7 @@ module _ {limits : Limits} {s source : List ℕ} {subject : Subject} {f : Facts}
   can_answer_no = (small, omega (arith, x.can.holds.few, x.can.from_one, listed x.can x.more, x.can.walkable.list_short))
 
   -- ---- after the yes part
-  module _ {r : Placed} {s₁ : List ℕ} (e₁ : outcome r s₁ ≡ walk limits s source subject (left - 1) (k + 1) (state a.yes)) where
+  module _ {r : Option ℕ} {s₁ : List ℕ} (e₁ : outcome r s₁ ≡ walk limits s source subject (left - 1) (k + 1) (state a.yes)) where
     part_goes : (t : List ℕ) (st : State) → Walkable t → question_count t ≡ question_count s → GoesOn t (walk limits t source subject (left - 1) (k + 1) st)
     part_goes t st w e = walk_goes limits x.can.fit source subject (left - 1) (k + 1) st t w (omega arith) (omega (arith, x.can.to_last, x.more))
 

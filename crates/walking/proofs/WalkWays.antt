@@ -4,8 +4,7 @@ use mathlib.Core.Path.{◌≡◌, refl, sym, ap, ◌∙◌}
 use mathlib.Core.Logic.{◌≢◌}
 use mathlib.Core.List.{List}
 use native.Mathlib.Omega.{arith}
-use Rattle.diagram.specs.declared.placing.Placed.{Placed}
-use Rattle.diagram.specs.declared.placing.Placed.TheVariants.{At, Full}
+use Rattle.std.proofs.Common.{Option, Some, None}
 use Rattle.diagram.specs.Insert.{then_place}
 use Rattle.facts.specs.declared.decision.Decision.{Decision}
 use Rattle.facts.specs.declared.decision.Decision.TheVariants.{Always, Never, Open}
@@ -62,14 +61,14 @@ more_left left n = omega arith
 -- ---- the ways through the code
 module _ (limits : Limits) (s source : List ℕ) (subject : Subject) (f : Facts) (k left : ℕ) {v : Decision}
     (ev : v ≡ subject_value s source subject (state f)) where
-  pub on_last : {p : Placed} → left ≡ 0 → p ≡ leaf_of v → outcome p s ≡ walk limits s source subject left k (state f)
+  pub on_last : {p : Option ℕ} → left ≡ 0 → p ≡ leaf_of v → outcome p s ≡ walk limits s source subject left k (state f)
   on_last e ep = rw (e, ep) (last_leaf limits s source subject k (state f) v ev)
 
   module _ (more : left ≢ 0) where
-    pub on_known : {p : Placed} → v ≢ Open → p ≡ leaf_of v → outcome p s ≡ walk limits s source subject left k (state f)
+    pub on_known : {p : Option ℕ} → v ≢ Open → p ≡ leaf_of v → outcome p s ≡ walk limits s source subject left k (state f)
     on_known h ep = rw (more_left left more, ep) (known_leaf limits s source subject k (state f) (left - 1) v h ev)
 
-    pub on_skip : {q : Equation} {a : Asked} {r : Placed} {s₁ : List ℕ} → v ≡ Open → q ≡ question s k → AskedOf f q a → a.decision ≢ Open
+    pub on_skip : {q : Equation} {a : Asked} {r : Option ℕ} {s₁ : List ℕ} → v ≡ Open → q ≡ question s k → AskedOf f q a → a.decision ≢ Open
         → outcome r s₁ ≡ walk limits s source subject (left - 1) (k + 1) (state f) → outcome r s₁ ≡ walk limits s source subject left k (state f)
     on_skip {a = a} ov eq asked h e = rw (more_left left more)
         (e ∙ sym (known_skips limits s source subject k (state f) (left - 1) (sym ev ∙ ov) a.decision h (asked.decision_is ∙ ap (decide (state f)) eq)))
@@ -78,10 +77,10 @@ module _ (limits : Limits) (s source : List ℕ) (subject : Subject) (f : Facts)
 module _ {limits : Limits} {s source : List ℕ} {subject : Subject} {f : Facts} {k left : ℕ} {q : Equation} {a : Asked}
     (x : Asking limits s source subject f k left q a) where
   -- what follows the no part, and the yes part
-  abbrev then_no : ℕ → ℕ → List ℕ → Outcome Placed
+  abbrev then_no : ℕ → ℕ → List ℕ → Outcome (Option ℕ)
   then_no y n s₂ = place_parts limits s₂ (entry_of k y n)
 
-  abbrev then_yes : Equation → ℕ → List ℕ → Outcome Placed
+  abbrev then_yes : Equation → ℕ → List ℕ → Outcome (Option ℕ)
   then_yes p y s₁ = then_place (walk limits s₁ source subject (left - 1) (k + 1) (no_to (state f) p)) (then_no y)
 
   asks : then_place (walk limits s source subject (left - 1) (k + 1) (state a.yes)) (then_yes q) ≡ walk limits s source subject left k (state f)
@@ -91,20 +90,20 @@ module _ {limits : Limits} {s source : List ℕ} {subject : Subject} {f : Facts}
       ∙ sym (open_asks limits s source subject k (state f) (left - 1) (sym x.value_is ∙ x.value_open) (ap (decide (state f)) (sym x.question_is) ∙ sym x.asked.decision_is ∙ x.is_open))
       ∙ ap (λ (l : ℕ). walk limits s source subject l k (state f)) (sym (more_left left x.more))
 
-  module _ {r : Placed} {s₁ : List ℕ} (e₁ : outcome r s₁ ≡ walk limits s source subject (left - 1) (k + 1) (state a.yes)) where
+  module _ {r : Option ℕ} {s₁ : List ℕ} (e₁ : outcome r s₁ ≡ walk limits s source subject (left - 1) (k + 1) (state a.yes)) where
     after_yes : then_place (outcome r s₁) (then_yes q) ≡ walk limits s source subject left k (state f)
     after_yes = ap (λ o. then_place o (then_yes q)) e₁ ∙ asks
 
-    pub on_yes_full : r ≡ Full → outcome Full s₁ ≡ walk limits s source subject left k (state f)
+    pub on_yes_full : r ≡ None → outcome None s₁ ≡ walk limits s source subject left k (state f)
     on_yes_full e = rw e at after_yes
 
-    module _ {y : ℕ} (ey : r ≡ At y) (g : Facts) (eg : state g ≡ no_to (state f) q) {r' : Placed} {s₂ : List ℕ}
+    module _ {y : ℕ} (ey : r ≡ Some y) (g : Facts) (eg : state g ≡ no_to (state f) q) {r' : Option ℕ} {s₂ : List ℕ}
         (e₂ : outcome r' s₂ ≡ walk limits s₁ source subject (left - 1) (k + 1) (state g)) where
       after_no : then_place (outcome r' s₂) (then_no y) ≡ walk limits s source subject left k (state f)
       after_no = ap (λ o. then_place o (then_no y)) (e₂ ∙ ap (λ st. walk limits s₁ source subject (left - 1) (k + 1) st) eg) ∙ (rw ey at after_yes)
 
-      pub on_no_full : r' ≡ Full → outcome Full s₂ ≡ walk limits s source subject left k (state f)
+      pub on_no_full : r' ≡ None → outcome None s₂ ≡ walk limits s source subject left k (state f)
       on_no_full e = rw e at after_no
 
-      pub on_parts : {n : ℕ} {o : Outcome Placed} → r' ≡ At n → o ≡ place_parts limits s₂ (entry_of k y n) → o ≡ walk limits s source subject left k (state f)
+      pub on_parts : {n : ℕ} {o : Outcome (Option ℕ)} → r' ≡ Some n → o ≡ place_parts limits s₂ (entry_of k y n) → o ≡ walk limits s source subject left k (state f)
       on_parts e eo = eo ∙ (rw e at after_no)

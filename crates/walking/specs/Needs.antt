@@ -1,7 +1,5 @@
 -- What the code relies on, and no claim: the words of the store that a walk reads and adds to, the rows of its table, and the facts so far.
-use Rattle.std.specs.Prelude.{ℕ, ◌+◌, ◌-◌, ◌*◌, ◌≤◌, ◌<◌, cond, List, eqb, length, get_or}
-use Rattle.diagram.specs.declared.placing.Placed.{Placed}
-use Rattle.diagram.specs.declared.placing.Placed.TheVariants.{At}
+use Rattle.std.specs.Prelude.{ℕ, ◌+◌, ◌-◌, ◌*◌, ◌≤◌, ◌<◌, cond, List, eqb, length, get_or, Option, Some}
 use Rattle.facts.specs.declared.decision.Decision.{Decision}
 use Rattle.facts.specs.declared.decision.Decision.TheVariants.{Always, Never, Open}
 use Rattle.facts.specs.declared.record.Facts.{Facts}
@@ -30,10 +28,10 @@ unfoldable pub said : List ℕ → ℕ → Decision
 said values i = cond (eqb (get_or values i 0) 0) Never (cond (eqb (get_or values i 0) 1) Always Open)
 
 -- the leaf of a value; after the last question none is open
-abbrev pub leaf_of : Decision → Placed
-leaf_of Always = At 1
-leaf_of Never = At 0
-leaf_of Open = At 0
+abbrev pub leaf_of : Decision → Option ℕ
+leaf_of Always = Some 1
+leaf_of Never = Some 0
+leaf_of Open = Some 0
 
 -- ---- the store
 -- The words of a store as far as a walk relies on them: less than that the store is sound, and left so by every entry that is added.

@@ -3,11 +3,10 @@ use Prim.Native.Nat.{ℕ}
 use mathlib.Core.Path.{◌≡◌, sym, subst}
 use mathlib.Core.List.{List}
 use Rattle.operations.specs.declared.answer.BuildFault.{BuildFault}
-use Rattle.operations.specs.declared.answer.Built.{Built}
-use Rattle.operations.specs.declared.answer.Built.TheVariants as built
+use Rattle.operations.specs.Built.{Built}
+use Rattle.std.specs.Prelude.{Ok, Err}
 use Rattle.operations.specs.Operations as operation
-use Rattle.store.specs.declared.answer.Opened.{Opened}
-use Rattle.store.specs.declared.answer.Opened.TheVariants as opened
+use Rattle.store.specs.Opened.{Opened}
 use Rattle.store.specs.declared.answer.OpenFault.{OpenFault}
 use Rattle.store.specs.Open.{open_store}
 use Rattle.store.specs.Outcome.{Outcome, outcome}
@@ -28,30 +27,30 @@ module _ (limits : Limits) (n order : ℕ) (list first second s : List ℕ) wher
   promised e = (e, subst (λ (o : Outcome Joins). SameHandles o.answer) (sym e) (joins_alike limits n order list first second s))
 
   module _ {o : Opened} {w₀ : List ℕ} (p₀ : outcome o w₀ ≡ open_store limits n order list s) where
-    pub not_open : {f : OpenFault} → o ≡ opened.Refused f → Promised Refused w₀
+    pub not_open : {f : OpenFault} → o ≡ Err f → Promised Refused w₀
     unfolding joined_both_ways after_opening after_building
     not_open t = promised (rw (← p₀, t))
 
-    module _ (q₀ : o ≡ opened.Accepted) {r₁ : Built} {w₁ : List ℕ} (p₁ : outcome r₁ w₁ ≡ operation.build limits w₀ first) where
-      pub no_first : {f : BuildFault} → r₁ ≡ built.Refused f → Promised Refused w₁
+    module _ (q₀ : o ≡ Ok tt) {r₁ : Built} {w₁ : List ℕ} (p₁ : outcome r₁ w₁ ≡ operation.build limits w₀ first) where
+      pub no_first : {f : BuildFault} → r₁ ≡ Err f → Promised Refused w₁
       unfolding joined_both_ways after_opening after_building
       no_first t = promised (rw (← p₀, q₀, ← p₁, t))
 
-      module _ {a : ℕ} (q₁ : r₁ ≡ built.Handle a) {r₂ : Built} {w₂ : List ℕ} (p₂ : outcome r₂ w₂ ≡ operation.build limits w₁ second) where
-        pub no_second : {f : BuildFault} → r₂ ≡ built.Refused f → Promised Refused w₂
+      module _ {a : ℕ} (q₁ : r₁ ≡ Ok a) {r₂ : Built} {w₂ : List ℕ} (p₂ : outcome r₂ w₂ ≡ operation.build limits w₁ second) where
+        pub no_second : {f : BuildFault} → r₂ ≡ Err f → Promised Refused w₂
         unfolding joined_both_ways after_opening after_building
         no_second t = promised (rw (← p₀, q₀, ← p₁, q₁, ← p₂, t))
 
-        module _ {b : ℕ} (q₂ : r₂ ≡ built.Handle b) {r₃ : Built} {w₃ : List ℕ} (p₃ : outcome r₃ w₃ ≡ operation.join limits w₂ a b) where
-          pub no_forward : {f : BuildFault} → r₃ ≡ built.Refused f → Promised Refused w₃
+        module _ {b : ℕ} (q₂ : r₂ ≡ Ok b) {r₃ : Built} {w₃ : List ℕ} (p₃ : outcome r₃ w₃ ≡ operation.join limits w₂ a b) where
+          pub no_forward : {f : BuildFault} → r₃ ≡ Err f → Promised Refused w₃
           unfolding joined_both_ways after_opening after_building
           no_forward t = promised (rw (← p₀, q₀, ← p₁, q₁, ← p₂, q₂, ← p₃, t))
 
-          module _ {c : ℕ} (q₃ : r₃ ≡ built.Handle c) {r₄ : Built} {w₄ : List ℕ} (p₄ : outcome r₄ w₄ ≡ operation.join limits w₃ b a) where
-            pub no_backward : {f : BuildFault} → r₄ ≡ built.Refused f → Promised Refused w₄
+          module _ {c : ℕ} (q₃ : r₃ ≡ Ok c) {r₄ : Built} {w₄ : List ℕ} (p₄ : outcome r₄ w₄ ≡ operation.join limits w₃ b a) where
+            pub no_backward : {f : BuildFault} → r₄ ≡ Err f → Promised Refused w₄
             unfolding joined_both_ways after_opening after_building
             no_backward t = promised (rw (← p₀, q₀, ← p₁, q₁, ← p₂, q₂, ← p₃, q₃, ← p₄, t))
 
-            pub both : {d : ℕ} → r₄ ≡ built.Handle d → Promised (Both c d) w₄
+            pub both : {d : ℕ} → r₄ ≡ Ok d → Promised (Both c d) w₄
             unfolding joined_both_ways after_opening after_building
             both q₄ = promised (rw (← p₀, q₀, ← p₁, q₁, ← p₂, q₂, ← p₃, q₃, ← p₄, q₄))

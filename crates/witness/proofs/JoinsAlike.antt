@@ -4,13 +4,12 @@ use mathlib.Core.Path.{◌≡◌, refl, sym, ap₂, ◌∙◌}
 use mathlib.Core.Bool.{Bool, true, false, ◌&&◌}
 use mathlib.Core.List.{List, [], ◌∷◌}
 use lib.ListN.{length}
-use Rattle.operations.specs.declared.answer.Built.{Built}
-use Rattle.operations.specs.declared.answer.Built.TheVariants.{Handle}
+use Rattle.operations.specs.Built.{Built}
+use Rattle.std.specs.Prelude.{Ok, Err}
 use Rattle.operations.specs.Handles.{Call, build, join, answer_to, Rule, Pair, pair, first_ledger, rule_of, rule_of_call, enter, Books, opened_books, after, run, In, newest, older}
 use Rattle.operations.specs.Kept.{Kept}
 use Rattle.terms.specs.declared.limits.Limits.{Limits}
-use Rattle.store.specs.declared.answer.Opened.{Opened}
-use Rattle.store.specs.declared.answer.Opened.TheVariants as opened
+use Rattle.store.specs.Opened.{Opened}
 use Rattle.store.specs.Open.{opening, opened_words, open_store}
 use Rattle.store.specs.Open as spec
 use Rattle.store.specs.Outcome.{Outcome, outcome}
@@ -31,11 +30,11 @@ and_turned false false = refl
 
 -- ---- the ledger
 -- an accepted call's pair is entered
-entered : (ps : List Pair) (r : Rule) (a : Built) (h : ℕ) → a ≡ Handle h → In (pair h r) (enter ps r a)
+entered : (ps : List Pair) (r : Rule) (a : Built) (h : ℕ) → a ≡ Ok h → In (pair h r) (enter ps r a)
 entered ps r a h e = rw e newest
 
 -- and the older pairs stay
-stays : (ps : List Pair) (r : Rule) (a : Built) (h : ℕ) → a ≡ Handle h → (p : Pair) → In p ps → In p (enter ps r a)
+stays : (ps : List Pair) (r : Rule) (a : Built) (h : ℕ) → a ≡ Ok h → (p : Pair) → In p ps → In p (enter ps r a)
 stays ps r a h e p i = rw e (older i)
 
 -- the rule of a handle in the ledger is as its pair says, whichever pair is the latest
@@ -44,7 +43,7 @@ known : {limits : Limits} {b : Books} → Kept limits b → (h : ℕ) (r : Rule)
 known k h r i v = sym (rule_is_meaning k h v) ∙ stands_means k.sound (k.each (pair h r) i) v
 
 -- ---- the five calls
-module _ (limits : Limits) (n order : ℕ) (list s first second : List ℕ) (e : opening limits n order list (length s) ≡ opened.Accepted) (a b c d : ℕ) where
+module _ (limits : Limits) (n order : ℕ) (list s first second : List ℕ) (e : opening limits n order list (length s) ≡ Ok tt) (a b c d : ℕ) where
   abbrev books₀ : Books
   books₀ = opened_books n order list (length s)
 
@@ -60,8 +59,8 @@ module _ (limits : Limits) (n order : ℕ) (list s first second : List ℕ) (e :
   abbrev answer_at : Call → Books → Built
   answer_at call x = (answer_to limits x.words call).answer
 
-  module _ (e₁ : answer_at (build first) books₀ ≡ Handle a) (e₂ : answer_at (build second) books₁ ≡ Handle b)
-      (e₃ : answer_at (join a b) books₂ ≡ Handle c) (e₄ : answer_at (join b a) books₃ ≡ Handle d) where
+  module _ (e₁ : answer_at (build first) books₀ ≡ Ok a) (e₂ : answer_at (build second) books₁ ≡ Ok b)
+      (e₃ : answer_at (join a b) books₂ ≡ Ok c) (e₄ : answer_at (join b a) books₃ ≡ Ok d) where
     kept₂ : Kept limits books₂
     unfolding run
     kept₂ = run_kept limits n order list s e (build first ∷ build second ∷ [])
@@ -103,17 +102,17 @@ module _ (limits : Limits) (n order : ℕ) (list s first second : List ℕ) (e :
 -- ---- a claim about what follows a call, which is accepted or refused
 module _ (P : Outcome Joins → Type 0) where
   by_opened : (limits : Limits) (n order : ℕ) (list s : List ℕ) (rest : List ℕ → Outcome Joins)
-      → (opening limits n order list (length s) ≡ opened.Accepted → P (rest (opened_words n order list (length s)))) → P (outcome Refused s)
+      → (opening limits n order list (length s) ≡ Ok tt → P (rest (opened_words n order list (length s)))) → P (outcome Refused s)
       → P (after_opening (open_store limits n order list s) rest)
   unfolding open_store after_opening
   by_opened limits n order list s rest goes_on stops = go (opening limits n order list (length s)) refl
     where
       go : (o : Opened) → opening limits n order list (length s) ≡ o → P (after_opening (spec.opened o n order list s) rest)
-      go opened.Accepted e = goes_on e
-      go (opened.Refused f) e = stops
+      go (Ok tt) e = goes_on e
+      go (Err f) e = stops
 
   by_built : (o : Outcome Built) (rest : ℕ → List ℕ → Outcome Joins)
-      → ((h : ℕ) → o.answer ≡ Handle h → P (rest h o.words)) → P (outcome Refused o.words) → P (after_building o rest)
+      → ((h : ℕ) → o.answer ≡ Ok h → P (rest h o.words)) → P (outcome Refused o.words) → P (after_building o rest)
   unfolding after_building
   by_built o rest goes_on stops = built_cases P o.answer (λ h. rest h o.words) (λ f. outcome Refused o.words) goes_on (λ f _. stops)
 

@@ -1,11 +1,9 @@
 -- Joining two rules both ways round: the calls one after the other, each by the definition that its function's promise names.
 use Rattle.std.specs.Prelude.{ℕ, ◌≡◌, List}
-use Rattle.operations.specs.declared.answer.Built.{Built}
-use Rattle.operations.specs.Built.{if_built}
+use Rattle.operations.specs.Built.{Built, if_built}
 use Rattle.operations.specs.Operations as operation
-use Rattle.store.specs.declared.answer.Opened.{Opened}
+use Rattle.store.specs.Opened.{Opened, if_accepted}
 use Rattle.store.specs.Open.{open_store}
-use Rattle.store.specs.Opened.{if_accepted}
 use Rattle.store.specs.Outcome.{Outcome, outcome}
 use Rattle.terms.specs.declared.limits.Limits.{Limits}
 use Rattle.witness.specs.declared.joining.Joins.{Joins}

@@ -10,7 +10,7 @@ use native.Mathlib.Omega.{arith}
 use native.Mathlib.Decide.{ℕ_discrete}
 use borrow.Author.Tests.{eq-eqb, ne_eqb, le-ltb}
 use lib.ListN.{length}
-use Rattle.store.specs.declared.answer.Opened.TheVariants.{Accepted, Refused}
+use Rattle.std.specs.Prelude.{Ok, Err}
 use Rattle.store.specs.declared.answer.OpenFault.TheVariants.{OutOfLimits, NotSimplified, NotAbove}
 use Rattle.store.specs.Layout.{field_count, question_count, used, list_words, question_in, question, leaves}
 use Rattle.store.specs.Open.{above_last, question_fault}
@@ -59,14 +59,14 @@ numbered_listed s j (suc k) h l = elim (ℕ_discrete j (suc k)) [
   | no n ↦ rw (numbered_listed s j k h (omega arith), or-true)
 ]
 
-accepted_simplified : (order : Order) (limits : TermLimits) (words : List ℕ) (k : ℕ) → question_fault order limits words k ≡ Accepted → is_simplified (question_in words k) ≡ true
+accepted_simplified : (order : Order) (limits : TermLimits) (words : List ℕ) (k : ℕ) → question_fault order limits words k ≡ Ok tt → is_simplified (question_in words k) ≡ true
 unfolding question_fault
 accepted_simplified order limits words k e =
     let q = question_in words k in
-    let rest = cond (above_last order words k) Accepted (Refused NotAbove) in
-    by_test (λ t. cond t (cond (is_simplified q) rest (Refused NotSimplified)) (Refused OutOfLimits) ≡ Accepted → is_simplified q ≡ true)
+    let rest = cond (above_last order words k) (Ok tt) (Err NotAbove) in
+    by_test (λ t. cond t (cond (is_simplified q) rest (Err NotSimplified)) (Err OutOfLimits) ≡ Ok tt → is_simplified q ≡ true)
     (allows limits q.left && allows limits q.right)
-    (λ _. by_test (λ t. cond t rest (Refused NotSimplified) ≡ Accepted → t ≡ true) (is_simplified q)
+    (λ _. by_test (λ t. cond t rest (Err NotSimplified) ≡ Ok tt → t ≡ true) (is_simplified q)
     (λ _ _. refl) (λ _ r. absurd (let z : ◌≡◌ {A = ℕ} 0 1 = cc in omega arith)))
     (λ _ r. absurd (let z : ◌≡◌ {A = ℕ} 0 1 = cc in omega arith)) e
 
@@ -77,7 +77,7 @@ module _ {limits : Limits} {s : List ℕ} (snd : Sound limits s) where
   question_fine : (j : ℕ) → 1 ≤ j → j ≤ question_count s → equation_fault within s (question s j) ≡ none
   unfolding equation_fault
   question_fine j first last =
-      let passed : question_fault (order_of snd.order) within (list_words s) (j - 1) ≡ Accepted =
+      let passed : question_fault (order_of snd.order) within (list_words s) (j - 1) ≡ (Ok tt) =
       each_accepted (order_of snd.order) within (list_words s) (question_count s) 0 snd.list_kept (j - 1) (omega arith) (omega arith) in
       let allowed : (allows within (question s j).left && allows within (question s j).right) ≡ true = accepted_allows (order_of snd.order) within (list_words s) (j - 1) passed in
       let stays : simplify (question s j) ≡ Question (question s j) =

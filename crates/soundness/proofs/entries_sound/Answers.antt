@@ -1,15 +1,13 @@
-use borrow.Author.Rules.{rules}
-use Rattle.soundness.proofs.EntryWays.{passed_none, passed_more, entry_fails, all_passed}
+-- `entries_sound` meets its contract: the numbers of the entries are tested one by one.
+use Rattle.std.proofs.Common.{rules, arith, refl, ◌∙◌}
+use Rattle.std.proofs.lemmas.Iterator.{YieldsList-from_range}
+use Rattle.std.proofs.lemmas.Iterator.Search.{all_from_yields_List}
+use borrow.Author.Tests.{tests}
+use Rattle.store.proofs.Ranges.{list_all-range}
+use Rattle.store.specs.Sound.{entry_sound}
 use Rattle.soundness.proofs.entries_sound.Goals as goal
 
-pub loop-i-init : goal.loop-i-init
-loop-i-init c = search (rules, passed_none)
-
-pub loop-i-preserved : goal.loop-i-preserved
-loop-i-preserved c = search (rules, passed_more)
-
-pub returns-else-entry_sound : goal.returns-else-entry_sound
-returns-else-entry_sound c = search (rules, entry_fails)
-
 pub returns : goal.returns
-returns c = search (rules, all_passed)
+returns c =
+    all_from_yields_List (entry_sound c.args.s.now) _ _ _ c.all.ensures.ran (YieldsList-from_range 0 c.args.used c.args.used refl (omega arith)) (λ x b q k. search (rules, tests))
+    ∙ list_all-range (entry_sound c.args.s.now) c.args.used

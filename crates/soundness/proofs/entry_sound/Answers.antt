@@ -1,11 +1,10 @@
--- `entry_sound` meets its contract: the numbers, then the yes handle and then the no handle decide.
-use borrow.Author.Rules.{rules}
-use Rattle.soundness.proofs.EntryWays.{yes_named, no_named, by_no, yes_fails, numbers_fail}
-use Rattle.index.proofs.IndexLaws.{entry_in}
+-- `entry_sound` meets its contract: an entry whose numbers keep their rules names entries before it alone.
+use Rattle.std.proofs.Common.{rules}
+use Rattle.soundness.proofs.EntryWays.{numbers_fail, yes_named, no_named, yes_fails, by_no}
 use Rattle.soundness.proofs.entry_sound.Goals as goal
 
-pub entry_from-e-requires : goal.entry_from-e-requires
-entry_from-e-requires c = search (rules, entry_in)
+pub returns-then-not-numbers_sound : goal.returns-then-not-numbers_sound
+returns-then-not-numbers_sound c = search (rules, numbers_fail)
 
 pub asks_before-requires : goal.asks_before-requires
 asks_before-requires c = search (rules, yes_named)
@@ -18,6 +17,3 @@ returns-then-asks_before c = search (rules, by_no)
 
 pub returns-else-asks_before : goal.returns-else-asks_before
 returns-else-asks_before c = search (rules, yes_fails)
-
-pub returns-else-numbers_sound : goal.returns-else-numbers_sound
-returns-else-numbers_sound c = search (rules, numbers_fail)

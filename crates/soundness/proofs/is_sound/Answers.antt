@@ -1,7 +1,10 @@
--- `is_sound` meets its contract: the heading, then the room and then the rest decide, and each is tested where the one before it holds.
-use borrow.Author.Rules.{rules}
-use Rattle.soundness.proofs.SoundWays.{heading_whole, list_within, room_fits, by_body, room_fails, heading_fails}
+-- `is_sound` meets its contract: the heading, the room and the body are tested in turn, and each test that passes has what the next one asks for.
+use Rattle.std.proofs.Common.{rules}
 use Rattle.soundness.proofs.is_sound.Goals as goal
+use Rattle.soundness.proofs.SoundWays.{heading_fails, heading_whole, list_within, room_fits, room_fails, by_body}
+
+pub returns-then-not-heading_sound : goal.returns-then-not-heading_sound
+returns-then-not-heading_sound c = search (rules, heading_fails)
 
 pub used-requires : goal.used-requires
 used-requires c = search (rules, heading_whole)
@@ -20,6 +23,3 @@ returns-then-entries-room c = search (rules, by_body)
 
 pub returns-else-entries-room : goal.returns-else-entries-room
 returns-else-entries-room c = search (rules, room_fails)
-
-pub returns-else-heading_sound : goal.returns-else-heading_sound
-returns-else-heading_sound c = search (rules, heading_fails)

@@ -8,7 +8,4 @@ use Rattle.store.proofs.opening.list_fault.Given as goal
 
 abbrev pub invariant-loop-k : goal.invariant-loop-k
 invariant-loop-k l =
-    (l.k ≤ length l.list / 2) × (list_fault (order_of l.order) l.limits l.list (length l.list / 2) 0 ≡ list_fault (order_of l.order) l.limits l.list (length l.list / 2 - l.k) l.k)
-
-abbrev pub decreases-loop-k : goal.decreases-loop-k
-decreases-loop-k l = length l.list / 2 - l.k
+    list_fault (order_of l.order) l.limits l.list (length l.list / 2) 0 ≡ list_fault (order_of l.order) l.limits l.list (length l.list / 2 - l.k) l.k

@@ -1,18 +1,16 @@
-use borrow.Author.Rules.{rules}
-use Rattle.tables.proofs.ListWays.{look_start, look_end, can_look, look_found, look_next}
+-- `on_list` meets its contract: the questions are compared one by one.
+use Rattle.std.proofs.Common.{rules, arith, refl, ◌+◌, ◌∙◌, ap}
+use Rattle.std.proofs.lemmas.Iterator.{YieldsList-from_range}
+use Rattle.std.proofs.lemmas.Iterator.Search.{any_from_yields_List}
+use borrow.Author.Tests.{tests}
+use Rattle.store.specs.Layout.{question}
+use Rattle.tables.specs.Listed.{same_equation, on_list}
+use Rattle.tables.proofs.ListWays.{list_any-questions}
 use Rattle.tables.proofs.listing.on_list.Goals as goal
 
-pub loop-k-init : goal.loop-k-init
-loop-k-init c = search (rules, look_start)
-
-pub question_at-requires : goal.question_at-requires
-question_at-requires c = search (rules, can_look)
-
-pub returns-then-same_equation : goal.returns-then-same_equation
-returns-then-same_equation c = search (rules, look_found)
-
-pub loop-k-preserved : goal.loop-k-preserved
-loop-k-preserved c = search (rules, look_next)
-
 pub returns : goal.returns
-returns c = search (rules, look_end)
+returns c =
+    let s = c.args.s.now in
+    let n = c.wide.result in
+    any_from_yields_List (λ k. same_equation (question s (k + 1)) c.args.q) _ _ _ c.any.ensures.ran (YieldsList-from_range 0 n n refl (omega arith)) (λ x b q k. search (rules, tests))
+    ∙ list_any-questions s c.args.q n ∙ ap (on_list s c.args.q) (c.wide.ensures ∙ c.question_count.ensures)

@@ -1,0 +1,43 @@
+-- A test that code makes of each number of a range, or of each word of a slice, is the test of every number below the range's end, or of every word: both go
+-- through the same numbers and words, the one from the front and the other from the back.
+use Prim.Native.Nat.{ℕ, zero, suc, ◌+◌}
+use mathlib.Core.Path.{◌≡◌, refl, ◌∙◌, ap, sym}
+use mathlib.Core.Bool.{Bool, true, false, ◌&&◌, ◌||◌, or-false, or_comm}
+use mathlib.Core.List.{List, [], ◌∷◌, ◌++◌}
+use native.Mathlib.Omega.{arith}
+use lib.Dec.{eqb}
+use Rattle.std.specs.List.{list_all, list_any, range_with_len}
+use Rattle.std.proofs.lemmas.List.Folds.{list_all-append, list_any-append}
+use Rattle.store.specs.Sound.{all_below, all_zero}
+
+range_more : (a n : ℕ) → range_with_len a (suc n) ≡ range_with_len a n ++ (a + n) ∷ []
+range_more a zero = let e : a + 0 ≡ a = omega arith in rw e
+range_more a (suc n) =
+    let e : a + 1 + n ≡ a + suc n = omega arith in
+    ap (λ (xs : List ℕ). a ∷ xs) (range_more (a + 1) n ∙ ap (λ (k : ℕ). range_with_len (a + 1) n ++ k ∷ []) e)
+
+last_alone : (b : Bool) → (b && true) ≡ b
+last_alone true = refl
+last_alone false = refl
+
+module _ (p : ℕ → Bool) where
+  pub list_all-range : (n : ℕ) → list_all p (range_with_len 0 n) ≡ all_below n p
+  unfolding all_below
+  list_all-range zero = refl
+  list_all-range (suc n) =
+      let e : 0 + n ≡ n = omega arith in
+      ap (list_all p) (range_more 0 n) ∙ list_all-append p (range_with_len 0 n) ((0 + n) ∷ [])
+      ∙ simp (last_alone, list_all-range n, e)
+
+pub list_all-zero : (ws : List ℕ) → list_all (λ w. eqb w 0) ws ≡ all_zero ws
+unfolding all_zero
+list_all-zero [] = refl
+list_all-zero (w ∷ ws) = ap (λ b. eqb w 0 && b) (list_all-zero ws)
+
+-- the same of a look for one that passes, whichever way a definition goes down the numbers
+pub list_any-range : (p f : ℕ → Bool) → f 0 ≡ false → ((k : ℕ) → f (suc k) ≡ (p k || f k)) → (n : ℕ) → list_any p (range_with_len 0 n) ≡ f n
+list_any-range p f z s zero = sym z
+list_any-range p f z s (suc n) =
+    let e : 0 + n ≡ n = omega arith in
+    ap (list_any p) (range_more 0 n) ∙ list_any-append p (range_with_len 0 n) ((0 + n) ∷ [])
+    ∙ simp (or-false, list_any-range p f z s n, e) (or_comm (f n) (p n)) ∙ sym (s n)
