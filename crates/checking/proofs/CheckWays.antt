@@ -10,8 +10,9 @@ use lib.Dec.{eqb, leb, ltb}
 use lib.ListN.{length}
 use Rattle.checking.specs.Needs.{HasEntries, AllHaveParts, Rooted, Shaped}
 use Rattle.normal_form.specs.declared.answer.CheckFault.TheVariants.{BadShape, BadTerm, HandleNotLower, EqualEntries, NotReachable, RuleApplies}
-use Rattle.normal_form.specs.declared.answer.CheckAnswer.{CheckAnswer}
-use Rattle.normal_form.specs.declared.answer.CheckAnswer.TheVariants.{Never, Always, Sometimes, Refused}
+use Rattle.normal_form.specs.CheckAnswer.{CheckAnswer}
+use Rattle.std.specs.Prelude.{Ok, Err}
+use Rattle.store.specs.declared.verdict.Verdict.TheVariants.{Never, Always, Sometimes}
 use Rattle.normal_form.specs.Check.{shape_kept, terms_kept, handles_lower, entries_differ, all_reachable, parts_ordered, left_apart, no_rule_applies, root_verdict, check_diagram, check_entries, check}
 use Rattle.normal_form.specs.Limits.{most_table_entries, table_limits}
 use Rattle.normal_form.specs.Table.{entry_length, entry_count, entry}
@@ -78,7 +79,7 @@ module _ {t : List ℕ} {root count : ℕ} (r : Rooted t root count) {a : Bool} 
   differ : a ≡ entries_differ t (entry_count t)
   differ = ea ∙ ap (entries_differ t) r.entries.whole
 
-  pub says_equal : a ≡ false → Refused EqualEntries ≡ check_diagram table_limits t root
+  pub says_equal : a ≡ false → Err EqualEntries ≡ check_diagram table_limits t root
   unfolding check_diagram
   says_equal d = rw (← differ, d)
 
@@ -86,12 +87,12 @@ module _ {t : List ℕ} {root count : ℕ} (r : Rooted t root count) {a : Bool} 
     reached : b ≡ all_reachable table_limits t root
     reached = eb ∙ ap (all_reachable table_limits t) eh
 
-    pub says_not_reachable : b ≡ false → Refused NotReachable ≡ check_diagram table_limits t root
+    pub says_not_reachable : b ≡ false → Err NotReachable ≡ check_diagram table_limits t root
     unfolding check_diagram
     says_not_reachable d = rw (← differ, sa, ← reached, d)
 
     module _ (sb : b ≡ true) {c : Bool} (ec : c ≡ no_rule_applies table_limits t) where
-      pub says_rule : c ≡ false → Refused RuleApplies ≡ check_diagram table_limits t root
+      pub says_rule : c ≡ false → Err RuleApplies ≡ check_diagram table_limits t root
       unfolding check_diagram
       says_rule d = rw (← differ, sa, ← reached, sb, ← ec, d)
 
@@ -108,7 +109,7 @@ module _ {t : List ℕ} {root count : ℕ} (z : Shaped t root count) where
     terms : a ≡ all_below (entry_count t) (λ i. terms_kept table_limits (entry t i))
     terms = ea ∙ ap (λ n. all_below n (λ i. terms_kept table_limits (entry t i))) z.whole
 
-    pub says_term : a ≡ false → Refused BadTerm ≡ check_entries table_limits t root
+    pub says_term : a ≡ false → Err BadTerm ≡ check_entries table_limits t root
     unfolding check_entries
     says_term d = rw (← terms, d)
 
@@ -116,7 +117,7 @@ module _ {t : List ℕ} {root count : ℕ} (z : Shaped t root count) where
       handles : b ≡ all_below (entry_count t) (λ i. handles_lower (entry t i) i)
       handles = eb ∙ ap (λ n. all_below n (λ i. handles_lower (entry t i) i)) z.whole
 
-      pub says_handle : b ≡ false → Refused HandleNotLower ≡ check_entries table_limits t root
+      pub says_handle : b ≡ false → Err HandleNotLower ≡ check_entries table_limits t root
       unfolding check_entries
       says_handle d = rw (← terms, sa, ← handles, d)
 
@@ -143,7 +144,7 @@ module _ {t : List ℕ} {root count : ℕ} (z : Shaped t root count) where
 
 -- ---- 81
 module _ (t : List ℕ) (root : ℕ) {b : Bool} (eb : b ≡ shape_kept table_limits t root) where
-  pub says_shape : b ≡ false → Refused BadShape ≡ check table_limits t root
+  pub says_shape : b ≡ false → Err BadShape ≡ check table_limits t root
   unfolding check
   says_shape d = rw (← eb, d)
 
