@@ -21,7 +21,7 @@ use Rattle.operations.specs.declared.answer.BuildFault.TheVariants.{NoRoom}
 use Rattle.std.specs.Prelude.{Ok}
 use Rattle.operations.specs.Operations.{refused, unless_full, added, add_meaning}
 use Rattle.store.specs.Grown.{Agree}
-use Rattle.store.specs.Layout.{heading_length, question_count, used_place, used, with_used, entries_start, entry, cleared_from}
+use Rattle.store.specs.Layout.{heading_length, question_count, used_place, used, with_used, entries_start, entry}
 use Rattle.store.specs.Outcome.{Outcome, outcome}
 use Rattle.store.specs.Sound.{same_entry, differ_below}
 use Rattle.store.specs.SoundParts.{Sound}
@@ -38,13 +38,6 @@ use Rattle.walking.proofs.SoundWalkable.{sound_walkable, can_begin}
 use Rattle.walking.proofs.WalkKeeps.{GoesOn, walk_goes}
 
 -- ---- putting the words back
-module _ (t : List ℕ) (u : ℕ) {from w : ℕ} (ef : from ≡ entries_start t) (ew : w ≡ u) {t₁ : List ℕ} (e₁ : t₁ ≡ with_used t u) where
-  pub clear_in : entries_start t + 3 * u ≤ length t → from + 3 * w ≤ length t₁
-  clear_in h = rw (e₁, length-set t used_place u) (omega arith)
-
-  pub restores : {t₂ : List ℕ} → t₂ ≡ cleared_from t₁ (from + 3 * w) → t₂ ≡ restored t u
-  restores e₂ = e₂ ∙ rw (e₁, ef, ew)
-
 -- the words of a restored store, from what stands before and after the first entries
 module _ (s t : List ℕ) (same : length t ≡ length s) (agree : Agree s t (used s)) (fits : entries_start s + 3 * used s ≤ length s)
     (zeros : (k : ℕ) → entries_start s + 3 * used s ≤ k → get_or s k 0 ≡ 0) where

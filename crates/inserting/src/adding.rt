@@ -42,9 +42,11 @@ pub fn add(limits: Limits, store: &mut [u32], subject: Subject) -> Result<u32, B
         ≡ add_meaning limits store.old (subject_meaning store.old subject.entry) }
 {
     let entries = used(store);
-    let placed = walk_all(limits, store, subject);
-    if placed.is_none() {
-        restore(store, entries);
+    match walk_all(limits, store, subject) {
+        Some(h) => Ok(h),
+        None => {
+            restore(store, entries);
+            Err(BuildFault::NoRoom)
+        }
     }
-    placed.ok_or(BuildFault::NoRoom)
 }

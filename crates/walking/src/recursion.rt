@@ -56,8 +56,9 @@ pub fn walk(
     let Asked::Open(yes) = ask(f, q) else {
         return walk(goal, store, index, f, k + 1, left - 1);
     };
+    let other = no(f, q);
     let y = walk(goal, store, index, yes, k + 1, left - 1)?;
-    let n = walk(goal, store, index, no(f, q), k + 1, left - 1)?;
+    let n = walk(goal, store, index, other, k + 1, left - 1)?;
     let e = Entry {
         question: k,
         yes: y,

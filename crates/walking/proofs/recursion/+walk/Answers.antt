@@ -40,7 +40,7 @@ walk-requires-3 t c = (
   omega (arith, c.decreases, c.if-left-eq0.false),
   (
     can_no (asking _ _ _ _ _ _ c.value-known.ensures c.if-left-eq0.false c.in-Open.is c.wide.ensures c.question_at-q.ensures
-        c.ask.ensures c.requires.can_walk c.in-Open-ask.is) c.walk-2.ensures.store_after c.no.ensures,
+        c.ask.ensures c.requires.can_walk c.in-Open-ask.is) c.walk-2.ensures.store_after c.no-other.ensures,
     c.walk-2.ensures.in_index_2,
   ),
 )
@@ -48,11 +48,11 @@ walk-requires-3 t c = (
 pub returns-in_err-n-clause-store_after : goal.returns-in_err-n-clause-store_after
 returns-in_err-n-clause-store_after t c =
     on_no_full (asking _ _ _ _ _ _ c.value-known.ensures c.if-left-eq0.false c.in-Open.is c.wide.ensures c.question_at-q.ensures
-    c.ask.ensures c.requires.can_walk c.in-Open-ask.is) c.walk-2.ensures.store_after c.in_ok-y.was c.no.result c.no.ensures
+    c.ask.ensures c.requires.can_walk c.in-Open-ask.is) c.walk-2.ensures.store_after c.in_ok-y.was c.no-other.result c.no-other.ensures
     c.walk-3.ensures.store_after c.in_err-n.was c.from_residual-in_err-n.ensures
 
 pub returns-clause-store_after : goal.returns-clause-store_after
 returns-clause-store_after t c =
     on_parts (asking _ _ _ _ _ _ c.value-known.ensures c.if-left-eq0.false c.in-Open.is c.wide.ensures c.question_at-q.ensures
-    c.ask.ensures c.requires.can_walk c.in-Open-ask.is) c.walk-2.ensures.store_after c.in_ok-y.was c.no.result c.no.ensures
+    c.ask.ensures c.requires.can_walk c.in-Open-ask.is) c.walk-2.ensures.store_after c.in_ok-y.was c.no-other.result c.no-other.ensures
     c.walk-3.ensures.store_after c.in_ok-n.was c.place_parts.ensures.store_after
