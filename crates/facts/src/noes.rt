@@ -3,7 +3,7 @@ ghost use Rattle.std.specs.Prelude.{◌≡◌, [], ◌∷◌, ◌≤◌, ◌<◌
 ghost use Rattle.facts.specs.Record as spec;
 ghost use Rattle.terms.specs.Limits.{most_count};
 
-use terms::{Equation, MOST_QUESTIONS, Term, word_of};
+use terms::{Equation, MOST_QUESTIONS, word_of};
 
 // How many a record has room for.
 pub const NOES: usize = MOST_QUESTIONS as usize;
@@ -20,10 +20,7 @@ impl WordPair {
     pub fn question(self) -> Equation
         ensures { result ≡ spec.question_in self }
     {
-        Equation {
-            left: Term::from(self.left),
-            right: Term::from(self.right),
-        }
+        Equation::of_words(self.left, self.right)
     }
 }
 

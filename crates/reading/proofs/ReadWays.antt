@@ -1,18 +1,13 @@
--- Reading a sheet on each way through the code: a count, a term's value and a question's truth are what the definitions give, and each
--- handle that follows is smaller and means the same.
-use Prim.Native.Nat.{ℕ, ◌+◌, ◌-◌, ◌≤◌, ◌<◌, ◌^◌}
+-- Reading a sheet: on a handle of a sound store each entry can be asked, and each handle that follows is smaller and means the same.
+use Prim.Native.Nat.{ℕ, ◌+◌, ◌-◌, ◌≤◌, ◌<◌}
 use mathlib.Core.Path.{◌≡◌, refl, sym, ◌∙◌, ap, subst}
-use mathlib.Core.Logic.{◌≢◌}
-use mathlib.Core.Bool.{Bool, true, false, cond}
+use mathlib.Core.Bool.{Bool, true, cond}
 use mathlib.Core.List.{List}
 use native.Mathlib.Omega.{arith}
-use borrow.Author.Tests.{eq-eqb, ne_eqb, le-ltb, ltb-true}
+use borrow.Author.Tests.{le-ltb, ltb-true}
 use lib.Dec.{eqb}
-use lib.ListN.{length, get_or}
-use Rattle.reading.specs.declared.answer.Read.TheVariants.{Satisfies, Refused}
-use Rattle.reading.specs.declared.answer.ReadFault.TheVariants.{NotSound, NoHandle, WrongLength}
-use Rattle.reading.specs.Needs.{Counted, CanValue, CanAsk, Readable}
-use Rattle.reading.specs.Read.{read_sheet}
+use lib.ListN.{length}
+use Rattle.reading.specs.Needs.{CanAsk, Readable}
 use Rattle.reading.specs.Sheet.{sheet_counts}
 use Rattle.store.specs.declared.entries.Entry.{Entry}
 use Rattle.store.specs.Layout.{heading_length, field_count, question, entry, leaves, used, is_handle}
@@ -22,32 +17,13 @@ use Rattle.store.specs.Sound.{sound}
 use Rattle.store.specs.SoundParts.{MayStand}
 use Rattle.terms.specs.declared.limits.Limits.{Limits}
 use Rattle.terms.specs.declared.term.Equation.{Equation}
-use Rattle.terms.specs.declared.term.Field.{Field}
-use Rattle.terms.specs.declared.term.Term.{Term}
-use Rattle.terms.specs.Limits.{most_count}
-use Rattle.terms.specs.Meaning.{count, value, truth}
+use Rattle.terms.specs.Meaning.{truth}
 use Rattle.terms.specs.Needs.{FitLimits}
 use Rattle.store.proofs.ByHandles.{leaf_stays, by_handle}
 use Rattle.store.proofs.SoundFacts.{sound_says, used_fits}
 use Rattle.store.proofs.SoundList.{sound_question}
 use Rattle.store.proofs.SoundTree.{meaning_entry}
 use Rattle.terms.proofs.Cases.{by_test}
-
--- ---- counts and values
-module _ (sheet : List ℕ) where
-  pub counted_zero : {f : Field} → f.0 ≡ 0 → Counted sheet f 0
-  unfolding count
-  counted_zero {f} e = record { is = rw (eq-eqb f.0 0 e) refl; low = omega arith }
-
-  pub counted_field : {f : Field} {k : ℕ} → f.0 ≢ 0 → k ≡ f.0 - 1 → get_or sheet k 0 ≤ most_count → Counted sheet f (get_or sheet k 0)
-  unfolding count
-  counted_field {f} n e h = record { is = rw (ne_eqb f.0 0 n, e) refl; low = h }
-
-  pub value_fits : (t : Term) {c : ℕ} → CanValue sheet t → Counted sheet t.field c → c + t.steps.0 < 2 ^ 32
-  value_fits t can n = omega (arith, n.low, can.steps_few)
-
-  pub value_is : (t : Term) {c : ℕ} → Counted sheet t.field c → c + t.steps.0 ≡ value (sheet_counts sheet) t
-  value_is t n = rw n.is
 
 -- ---- handles
 module _ {s : List ℕ} {h : ℕ} {sheet : List ℕ} (r : Readable s h sheet) (l : leaves ≤ h) where
@@ -76,19 +52,6 @@ module _ {s : List ℕ} {h : ℕ} {sheet : List ℕ} (r : Readable s h sheet) (l
             left = record { field_in = omega (arith, keeps.left.field_in, r.length_is); steps_few = omega (arith, keeps.left.steps_in, r.fit.counts_fit) };
             right = record { field_in = omega (arith, keeps.right.field_in, r.length_is); steps_few = omega (arith, keeps.right.steps_in, r.fit.counts_fit) };
           })
-
-      -- the handle that the answer to the entry's question picks
-      module _ {b : Bool} (t : b ≡ truth (sheet_counts sheet) q) where
-        answered : truth (sheet_counts sheet) (question s (entry s (h - leaves)).question) ≡ b
-        answered = sym (t ∙ ap (truth (sheet_counts sheet)) (eq ∙ ap (question s) asks))
-
-        pub next_yes : {y : ℕ} → b ≡ true → y ≡ e.yes → y ≡ next s (sheet_counts sheet) h
-        unfolding next
-        next_yes d n = n ∙ rw (le-ltb h leaves l, answered, d) (ap (λ (x : Entry). x.yes) ee)
-
-        pub next_no : {n : ℕ} → b ≡ false → n ≡ e.no → n ≡ next s (sheet_counts sheet) h
-        unfolding next
-        next_no d n = n ∙ rw (le-ltb h leaves l, answered, d) (ap (λ (x : Entry). x.no) ee)
 
 -- ---- the way down
 -- the handle g is on the way that the sheet takes from the handle h
@@ -137,35 +100,9 @@ module _ {s : List ℕ} {h : ℕ} {sheet : List ℕ} (r : Readable s h sheet) wh
       }
 
 -- ---- the operation
-module _ (limits : Limits) (s sheet : List ℕ) {b : Bool} (eb : b ≡ sound limits s) (h : ℕ) where
-  pub not_sound : b ≡ false → Refused NotSound ≡ read_sheet limits s h sheet
-  unfolding read_sheet
-  not_sound t = rw (← eb, t)
+module _ (limits : Limits) (s : List ℕ) {b : Bool} (eb : b ≡ sound limits s) (t : b ≡ true) where
+  pub heading_in : heading_length ≤ length s
+  heading_in = omega (arith, (sound_says limits s (sym eb ∙ t)).list_in)
 
-  module _ (t : b ≡ true) where
-    pub heading_in : heading_length ≤ length s
-    heading_in = omega (arith, (sound_says limits s (sym eb ∙ t)).list_in)
-
-    module _ {a : Bool} (ea : a ≡ is_handle s h) where
-      pub no_handle : a ≡ false → Refused NoHandle ≡ read_sheet limits s h sheet
-      unfolding read_sheet
-      no_handle f = rw (← eb, t, ← ea, f)
-
-      module _ (f : a ≡ true) {n w : ℕ} (en : n ≡ field_count s) (ew : w ≡ n) where
-        pub wrong_length : length sheet ≢ w → Refused WrongLength ≡ read_sheet limits s h sheet
-        unfolding read_sheet
-        wrong_length k = rw (← eb, t, ← ea, f, ← en, ← ew, ne_eqb (length sheet) w k)
-
-        module _ (k : length sheet ≡ w) where
-          pub can_read : FitLimits limits → Readable s h sheet
-          can_read fit = record {
-            limits = limits;
-            fit = fit;
-            sound_in = sym eb ∙ t;
-            handle_in = ltb-true h (used s + leaves) (sym ea ∙ f);
-            length_is = k ∙ ew ∙ en;
-          }
-
-          pub has_read : {m : Bool} → m ≡ meaning s h (sheet_counts sheet) → Satisfies m ≡ read_sheet limits s h sheet
-          unfolding read_sheet
-          has_read em = rw (← eb, t, em, ← ea, f, ← en, ← ew, eq-eqb (length sheet) w k)
+  pub can_read : {h : ℕ} {sheet : List ℕ} {a : Bool} → FitLimits limits → a ≡ is_handle s h → a ≡ true → length sheet ≡ field_count s → Readable s h sheet
+  can_read {h} fit ea f l = record { limits = limits; fit = fit; sound_in = sym eb ∙ t; handle_in = ltb-true h (used s + leaves) (sym ea ∙ f); length_is = l }

@@ -1,49 +1,35 @@
-// The answer of reading, and document 01's numbers for it.
+// Why a sheet is not read, and document 01's numbers for the answers of reading.
 ghost use Rattle.std.specs.Prelude.{◌≡◌};
 ghost use Rattle.reading.specs.Read as spec;
 
-// What reading answers: whether the sheet satisfies the handle, or why it was not read.
-#[derive(Clone, Copy)]
-pub enum Read {
-    Satisfies(bool),
-    Refused(ReadFault),
-}
+use terms::Refusal;
 
 // Why a sheet is not read.
-#[derive(Clone, Copy)]
+#[derive(Clone, Copy, Debug, PartialEq, Eq)]
 pub enum ReadFault {
     NotSound,
     NoHandle,
     WrongLength,
 }
 
-// The number of a fault.
-fn read_fault_number(f: ReadFault) -> u32
-    ensures { result ≡ spec.read_fault_number f }
-{
-    match f {
-        ReadFault::NotSound => 22,
-        ReadFault::NoHandle => 41,
-        ReadFault::WrongLength => 23,
-    }
-}
+impl Refusal for ReadFault {
+    ghost number_of = { spec.read_fault_number };
 
-// The number of an answer.
-pub fn read_number(r: Read) -> u32
-    ensures { result ≡ spec.read_number r }
-{
-    match r {
-        Read::Satisfies(_) => 0,
-        Read::Refused(f) => read_fault_number(f),
+    fn number(self) -> u32 {
+        match self {
+            ReadFault::NotSound => 22,
+            ReadFault::NoHandle => 41,
+            ReadFault::WrongLength => 23,
+        }
     }
 }
 
 // The result of an answer.
-pub fn read_result(r: Read) -> u32
+pub fn read_result(r: Result<bool, ReadFault>) -> u32
     ensures { result ≡ spec.read_result r }
 {
     match r {
-        Read::Satisfies(b) => { if b { 1 } else { 0 } }
-        Read::Refused(_) => 0,
+        Ok(satisfies) => u32::from(satisfies),
+        Err(_) => 0,
     }
 }

@@ -4,5 +4,5 @@
 mod answer;
 mod reading;
 
-pub use answer::{Read, ReadFault, read_number, read_result};
+pub use answer::{ReadFault, read_result};
 pub use reading::{read, read_sound, read_within};

@@ -9,12 +9,13 @@ ghost use Rattle.terms.specs.Limits as limit;
 ghost use Rattle.terms.specs.Meaning.{value, truth};
 ghost use Rattle.terms.specs.Needs.{FitLimits};
 
-use crate::answer::{Read, ReadFault};
+use crate::answer::ReadFault;
 use soundness::is_sound;
 use store::{LEAVES, entry_of, field_count, has_handle, question_at, wide};
 use terms::{Equation, Field, Limits, Term, limits_of_store};
 
 // A field's count.
+#[tactic(auto, unfolding(terms::specs::Meaning::count))]
 fn count_of(sheet: &[u16], f: Field) -> u32
     requires { f.0 ≤ length sheet.now }
     ensures { Counted sheet.now f result }
@@ -22,8 +23,7 @@ fn count_of(sheet: &[u16], f: Field) -> u32
     if f.0 == 0 {
         return 0;
     }
-    let at = wide(f.0 - 1);
-    sheet[at] as u32
+    u32::from(sheet[wide(f.0 - 1)])
 }
 
 // The value of a term.
@@ -43,6 +43,7 @@ fn truth_of(sheet: &[u16], q: Equation) -> bool
 }
 
 // The handle that follows an entry's.
+#[tactic(auto, unfolding(store::specs::Meaning::next))]
 fn next_of(s: &[u32], handle: usize, sheet: &[u16]) -> usize
     requires readable { Readable s.now handle sheet.now }
     requires leaves_le_handle { layout.leaves ≤ handle }
@@ -68,24 +69,25 @@ pub fn read_sound(s: &[u32], handle: u32, sheet: &[u16]) -> bool
 }
 
 // Reads a sheet against a handle within limits.
-pub fn read_within(limits: Limits, s: &[u32], handle: u32, sheet: &[u16]) -> Read
+#[tactic(auto, unfolding(crate::specs::Read::read_sheet))]
+pub fn read_within(limits: Limits, s: &[u32], handle: u32, sheet: &[u16]) -> Result<bool, ReadFault>
     requires { FitLimits limits }
     ensures { result ≡ spec.read_sheet limits s.now handle sheet.now }
 {
-    if is_sound(limits, s) {
-        if has_handle(s, handle) {
-            if sheet.len() == wide(field_count(s)) {
-                return Read::Satisfies(read_sound(s, handle, sheet));
-            }
-            return Read::Refused(ReadFault::WrongLength);
-        }
-        return Read::Refused(ReadFault::NoHandle);
+    if !is_sound(limits, s) {
+        return Err(ReadFault::NotSound);
     }
-    Read::Refused(ReadFault::NotSound)
+    if !has_handle(s, handle) {
+        return Err(ReadFault::NoHandle);
+    }
+    if sheet.len() != wide(field_count(s)) {
+        return Err(ReadFault::WrongLength);
+    }
+    Ok(read_sound(s, handle, sheet))
 }
 
 // Reads a sheet against a handle.
-pub fn read(s: &[u32], handle: u32, sheet: &[u16]) -> Read
+pub fn read(s: &[u32], handle: u32, sheet: &[u16]) -> Result<bool, ReadFault>
     ensures { result ≡ spec.read_sheet limit.store_limits s.now handle sheet.now }
 {
     read_within(limits_of_store(), s, handle, sheet)

@@ -1,6 +1,6 @@
 -- `next_of` meets its contract: a handle that is no leaf has an entry, and the answer to its question picks the handle that follows.
 use borrow.Author.Rules.{rules}
-use Rattle.reading.proofs.ReadWays.{entry_there, asks_question, can_ask, next_yes, next_no}
+use Rattle.reading.proofs.ReadWays.{entry_there, asks_question, can_ask}
 use Rattle.reading.proofs.reading.next_of.Goals as goal
 
 pub entry_of-e-requires : goal.entry_of-e-requires
@@ -11,9 +11,3 @@ question_at-requires c = search (rules, asks_question)
 
 pub truth_of-requires : goal.truth_of-requires
 truth_of-requires c = search (rules, can_ask)
-
-pub returns-then-truth_of : goal.returns-then-truth_of
-returns-then-truth_of c = search (rules, next_yes)
-
-pub returns : goal.returns
-returns c = search (rules, next_no)
