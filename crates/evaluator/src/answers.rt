@@ -1,0 +1,30 @@
+// What a call answers: a number, which is 0 if it accepts, and a result.
+use crate::refusals::Refusal;
+
+#[derive(Clone, Copy, Debug, PartialEq, Eq)]
+pub struct Answer {
+    pub number: u32,
+    pub result: u32,
+}
+
+impl From<Result<u32, Refusal>> for Answer {
+    fn from(expected: Result<u32, Refusal>) -> Answer {
+        match expected {
+            Ok(result) => Answer {
+                number: 0,
+                result: result,
+            },
+            Err(refusal) => Answer {
+                number: refusal.number(),
+                result: 0,
+            },
+        }
+    }
+}
+
+// An opening, which has no result.
+impl From<Result<(), Refusal>> for Answer {
+    fn from(expected: Result<(), Refusal>) -> Answer {
+        Answer::from(expected.map(|_| 0))
+    }
+}
