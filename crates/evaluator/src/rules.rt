@@ -36,6 +36,17 @@ impl TryFrom<[u32; 4]> for Row {
 }
 
 impl Row {
+    pub fn words(self) -> [u32; 4] {
+        match self {
+            Row::Never => [0, 0, 0, 0],
+            Row::Always => [1, 0, 0, 0],
+            Row::Asks(equation) => [2, equation.left, equation.right, 0],
+            Row::Not(a) => [3, a, 0, 0],
+            Row::And(a, b) => [4, a, b, 0],
+            Row::IfThenElse(a, b, c) => [5, a, b, c],
+        }
+    }
+
     // Whether a row refers only to rows below a number.
     fn refers_below(self, r: usize) -> bool {
         let below = |row: u32| (row as usize) < r;

@@ -27,7 +27,7 @@ pub fn copy(from: &[u32], to: &mut [u32]) {
     }
 }
 
-// Up to N words.
+// Up to N words, and room behind them.
 #[derive(Clone, Copy)]
 pub struct Words<const N: usize> {
     array: [u32; N],
@@ -36,11 +36,23 @@ pub struct Words<const N: usize> {
 }
 
 impl<const N: usize> Words<N> {
+    // No words, and room full of zeros.
     pub fn new() -> Words<N> {
+        Words::filled(0, 0)
+    }
+
+    // So many words that are all alike, as far as there is room, and room full of the same.
+    pub fn filled(word: u32, length: usize) -> Words<N> {
         Words {
-            array: [0; N],
-            length: 0,
+            array: [word; N],
+            length: length.min(N),
         }
+    }
+
+    pub fn len(&self) -> usize
+        ensures { result ≤ N }
+    {
+        self.length
     }
 
     pub fn as_slice(&self) -> &[u32] {
@@ -53,10 +65,19 @@ impl<const N: usize> Words<N> {
         &mut array[..length]
     }
 
-    pub fn len(&self) -> usize
-        ensures { result ≤ N }
-    {
-        self.length
+    // The words and the room behind them.
+    pub fn room(&self) -> &[u32] {
+        &self.array[..]
+    }
+
+    pub fn room_mut(&mut self) -> &mut [u32] {
+        let array = &mut self.array;
+        &mut array[..]
+    }
+
+    // So many words, as far as there is room: new ones are what stands there.
+    pub fn set_len(&mut self, length: usize) {
+        self.length = length.min(N);
     }
 
     // One word more, if there is room.
@@ -71,10 +92,5 @@ impl<const N: usize> Words<N> {
         for word in words {
             self.push(*word);
         }
-    }
-
-    // As many words as are asked for, and as there is room for: those after the ones that are there are zeros, or what stood there before.
-    pub fn set_len(&mut self, length: usize) {
-        self.length = length.min(N);
     }
 }
