@@ -1,4 +1,6 @@
 // What a call answers: a number, which is 0 if it accepts, and a result.
+ghost use Rattle.std.specs.Prelude.{◌≡◌, ◌<◌, OnErr, OnOk};
+
 use crate::refusals::Refusal;
 
 #[derive(Clone, Copy, Debug, PartialEq, Eq)]
@@ -8,7 +10,11 @@ pub struct Answer {
 }
 
 impl From<Result<u32, Refusal>> for Answer {
-    fn from(expected: Result<u32, Refusal>) -> Answer {
+    fn from(expected: Result<u32, Refusal>) -> Answer
+        ensures accepted { OnOk expected (result.number ≡ 0) }
+        ensures refused { OnErr expected (0 < result.number) }
+        ensures without { OnErr expected (result.result ≡ 0) }
+    {
         match expected {
             Ok(result) => Answer {
                 number: 0,

@@ -1,7 +1,7 @@
 // Equations of two terms, each of which is one word: its field, and its steps times 32.
-ghost use Rattle.std.specs.Prelude.{◌<◌};
+ghost use Rattle.std.specs.Prelude.{◌≡◌, ◌+◌, ◌/◌, ◌<◌};
 
-use crate::limits::{Limits, MOST_STEPS};
+use crate::limits::Limits;
 
 pub fn field(term: u32) -> u32
     ensures { result < 32 }
@@ -10,7 +10,7 @@ pub fn field(term: u32) -> u32
 }
 
 pub fn steps(term: u32) -> u32
-    ensures { result < 134217728 }
+    ensures { result ≡ term / 32 }
 {
     term / 32
 }
@@ -30,11 +30,11 @@ impl From<[u32; 2]> for Equation {
     }
 }
 
-// How many numbers of steps there are with 0.
-const STEP_COUNTS: u32 = MOST_STEPS + 1;
-
 impl Equation {
-    pub fn turned_round(self) -> Equation {
+    pub fn turned_round(self) -> Equation
+        ensures left { result.left ≡ self.right }
+        ensures right { result.right ≡ self.left }
+    {
         Equation {
             left: self.right,
             right: self.left,
@@ -56,28 +56,10 @@ impl Equation {
     }
 
     // The steps of both sides: a question's gap without its sign, as one of its sides has none.
-    pub fn gap(self) -> u32 {
-        steps(self.left) + steps(self.right)
-    }
-
-    // The two numbers of a question that the orders compare in different turn, as the digits of one number: order 0 compares the right field before
-    // the left steps, and order 1 after them.
-    fn middle(self, order: u32) -> u32
-        ensures { result < 32768 }
+    pub fn gap(self) -> u32
+        ensures { result ≡ self.left / 32 + self.right / 32 }
     {
-        let left_steps = steps(self.left) % STEP_COUNTS;
-        let right_field = field(self.right);
-        match order {
-            0 => right_field * STEP_COUNTS + left_steps,
-            _ => left_steps * 32 + right_field,
-        }
-    }
-
-    // Where a question stands in an order: left field, the two numbers between, and right steps as the digits of one number.
-    pub fn place(self, order: u32) -> u32 {
-        let middle = self.middle(order);
-        let right_steps = steps(self.right) % STEP_COUNTS;
-        (field(self.left) * (32 * STEP_COUNTS) + middle) * STEP_COUNTS + right_steps
+        steps(self.left) + steps(self.right)
     }
 }
 

@@ -1,7 +1,8 @@
 // What opening must answer, and the words that it must leave.
-use crate::layout::HEADING;
+use crate::equations::Equation;
+use crate::layout::{HEADING, Store};
 use crate::limits::Limits;
-use crate::lists::{check_questions, is_order};
+use crate::orders::Order;
 use crate::refusals::Refusal;
 use crate::words::copy;
 
@@ -13,24 +14,53 @@ pub struct Opening<'a> {
     pub list: &'a [u32],
 }
 
-impl Opening<'_> {
-    // Opening a store of so many words.
-    fn check(self, limits: Limits, length: usize) -> Result<(), Refusal> {
-        let words = self.list.len();
+// A question by itself.
+fn check_question(limits: Limits, n: u32, question: Equation) -> Result<(), Refusal> {
+    if question.is_beyond(limits, n) {
+        return Err(Refusal::ListedTerm);
+    }
+    if !question.is_question() {
+        return Err(Refusal::NoQuestion);
+    }
+    Ok(())
+}
+
+impl<'a> Opening<'a> {
+    // What opening tests first, with a list of questions and with a raw one. Gives the order.
+    pub fn check_form(self, limits: Limits) -> Result<Order, Refusal> {
         if self.n > limits.fields {
             return Err(Refusal::TooManyFields);
         }
-        if !is_order(self.order) {
-            return Err(Refusal::NoOrder);
-        }
-        if words % 2 == 1 {
+        let order = Order::try_from(self.order)?;
+        if self.list.len() % 2 == 1 {
             return Err(Refusal::HalfQuestion);
         }
-        if words / 2 > limits.questions as usize {
+        Ok(order)
+    }
+
+    // The questions of the list, each of which stands after the one before it.
+    fn check_questions(self, limits: Limits, order: Order) -> Result<(), Refusal> {
+        let mut before = 0;
+        for pair in self.list.as_chunks::<2>().0 {
+            let question = Equation::from(*pair);
+            check_question(limits, self.n, question)?;
+            let place = order.place(question);
+            if place <= before {
+                return Err(Refusal::OutOfOrder);
+            }
+            before = place;
+        }
+        Ok(())
+    }
+
+    // Opening a store of so many words.
+    pub fn check(self, limits: Limits, length: usize) -> Result<(), Refusal> {
+        let order = self.check_form(limits)?;
+        if self.list.len() / 2 > limits.questions as usize {
             return Err(Refusal::TooManyQuestions);
         }
-        check_questions(limits, self.n, self.order, self.list)?;
-        if length < HEADING + words {
+        self.check_questions(limits, order)?;
+        if length < HEADING + self.list.len() {
             return Err(Refusal::StoreTooShort);
         }
         Ok(())
@@ -42,6 +72,17 @@ impl Opening<'_> {
         copy(&[self.n, questions, 0, self.order], store);
         if let Some(room) = store.get_mut(HEADING..) {
             copy(self.list, room);
+        }
+    }
+}
+
+impl<'a> Store<'a> {
+    // What a store was opened with, by its own words.
+    pub fn opening(self) -> Opening<'a> {
+        Opening {
+            n: self.fields(),
+            order: self.order(),
+            list: self.list(),
         }
     }
 }

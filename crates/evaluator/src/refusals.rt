@@ -1,4 +1,5 @@
 // The refusals, and the documents' number of each.
+ghost use Rattle.std.specs.Prelude.{◌<◌};
 
 #[derive(Clone, Copy, Debug, PartialEq, Eq)]
 pub enum Refusal {
@@ -31,7 +32,10 @@ pub enum Refusal {
 }
 
 impl Refusal {
-    pub fn number(self) -> u32 {
+    // Never 0, which says that a call accepts.
+    pub fn number(self) -> u32
+        ensures { 0 < result }
+    {
         match self {
             Refusal::TooManyFields => 11,
             Refusal::HalfQuestion => 12,

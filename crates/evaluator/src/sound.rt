@@ -1,19 +1,12 @@
 // Whether words are a sound store within limits, part by part as documents 01 and 02 say it, and whether they have a handle.
 use crate::layout::Store;
 use crate::limits::Limits;
-use crate::lists::{check_questions, is_order};
 use crate::refusals::Refusal;
 
 impl Store<'_> {
-    // The number of fields, the number of questions, the length, the order, and the list.
+    // The number of fields, the number of questions, the order, the length and the list are such as opening accepts.
     fn has_sound_heading(self, limits: Limits) -> bool {
-        let n = self.fields();
-        let order = self.order();
-        n <= limits.fields
-            && self.questions() <= limits.questions
-            && self.fits(0)
-            && is_order(order)
-            && check_questions(limits, n, order, self.list()).is_ok()
+        self.fits(0) && self.opening().check(limits, self.0.len()).is_ok()
     }
 
     // A handle of an entry is smaller than its own, and the entry that it names has a larger question number.

@@ -1,5 +1,5 @@
 // Words and other values at places that may not be there.
-ghost use Rattle.std.specs.Prelude.{◌≤◌, length};
+ghost use Rattle.std.specs.Prelude.{◌≡◌, ◌+◌, ◌<◌, ◌≤◌, length};
 
 // The value at a place, zero or false beyond the end.
 pub fn at<T: Copy + Default>(s: &[T], place: usize) -> T {
@@ -42,46 +42,60 @@ impl<const N: usize> Words<N> {
     }
 
     // So many words that are all alike, as far as there is room, and room full of the same.
-    pub fn filled(word: u32, length: usize) -> Words<N> {
+    pub fn filled(word: u32, count: usize) -> Words<N>
+        ensures { (count ≤ N) → result.length ≡ count }
+    {
         Words {
             array: [word; N],
-            length: length.min(N),
+            length: count.min(N),
         }
     }
 
     pub fn len(&self) -> usize
-        ensures { result ≤ N }
+        ensures { result ≡ self.now.length }
     {
         self.length
     }
 
-    pub fn as_slice(&self) -> &[u32] {
+    pub fn as_slice(&self) -> &[u32]
+        ensures { length result.now ≡ self.now.length }
+    {
         &self.array[..self.length]
     }
 
-    pub fn as_mut_slice(&mut self) -> &mut [u32] {
+    pub fn as_mut_slice(&mut self) -> &mut [u32]
+        ensures { length result.now ≡ self.old.length }
+    {
         let length = self.length;
         let array = &mut self.array;
         &mut array[..length]
     }
 
     // The words and the room behind them.
-    pub fn room(&self) -> &[u32] {
+    pub fn room(&self) -> &[u32]
+        ensures { length result.now ≡ N }
+    {
         &self.array[..]
     }
 
-    pub fn room_mut(&mut self) -> &mut [u32] {
+    pub fn room_mut(&mut self) -> &mut [u32]
+        ensures { length result.now ≡ N }
+    {
         let array = &mut self.array;
         &mut array[..]
     }
 
     // So many words, as far as there is room: new ones are what stands there.
-    pub fn set_len(&mut self, length: usize) {
-        self.length = length.min(N);
+    pub fn set_len(&mut self, count: usize)
+        ensures { (count ≤ N) → self.new.length ≡ count }
+    {
+        self.length = count.min(N);
     }
 
     // One word more, if there is room.
-    pub fn push(&mut self, word: u32) {
+    pub fn push(&mut self, word: u32)
+        ensures { (self.old.length < N) → self.new.length ≡ self.old.length + 1 }
+    {
         if self.length < N {
             self.array[self.length] = word;
             self.length += 1;

@@ -1,6 +1,6 @@
 // A call at the institute or on the logger, made and compared with the evaluator within the limits of that side.
 use crate::run::Run;
-use evaluator::{Call, Side, Store, Words, expect_added};
+use evaluator::{Call, Refusal, Side, Store, Words, expect_added};
 use sheet::{Answer, sheet_build, sheet_choose, sheet_join, sheet_logger_build, sheet_negate};
 
 // The most words of a store whose words afterwards are compared.
@@ -34,7 +34,7 @@ pub fn try_on(run: &mut Run, side: Side, store: &mut [u32], call: Call<'_>) -> A
         run.expect_answer(found, expected);
         run.agree(words.as_slice() == &*store);
     } else {
-        run.agree(found.number == 0 || found.number == 51);
+        run.agree(found.number == 0 || found.number == Refusal::NoRoom.number());
     }
     found
 }

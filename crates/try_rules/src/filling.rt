@@ -1,13 +1,13 @@
 // Hand-made sound stores over the questions n = 0, n = S(0) and so on, n being the last field, with many entries.
 ghost use Rattle.std.specs.Prelude.{◌<◌};
 
-use evaluator::{Entry, HEADING, Opening, Store, USED_PLACE, first, put, put_entry};
+use evaluator::{Entry, HEADING, Opening, Store, USED_PLACE, Words, put, put_entry};
 
 // What a store is for: its fields, its questions, at least four, and its order.
 #[derive(Clone, Copy)]
 pub struct Form {
     pub n: u32,
-    pub questions: usize,
+    pub questions: u32,
     pub order: u32,
 }
 
@@ -23,22 +23,22 @@ pub fn widest(order: u32) -> Form {
 // The words of a store with 20 questions and room for 4,096 entries, and twenty more, so that the limit and not the length binds.
 pub const FULL_WORDS: usize = HEADING + 40 + 3 * 4096 + 20;
 
-// The questions n = 0, n = S(0) and so on, 20 of them.
-fn steps_list(n: u32) -> [u32; 40] {
-    let mut list = [n; 40];
-    for i in 0..20 {
-        list[2 * i + 1] = 32 * i as u32;
+// The questions n = 0, n = S(0) and so on.
+fn steps_list(form: Form) -> Words<40> {
+    let mut list = Words::new();
+    for steps in 0..form.questions {
+        list.extend_from_slice(&[form.n, steps.saturating_mul(32)]);
     }
     list
 }
 
 // The heading and the list, which is in both orders, with so many entries used.
 fn write_heading(words: &mut [u32], form: Form, used: u32) {
-    let list = steps_list(form.n);
+    let list = steps_list(form);
     let opening = Opening {
         n: form.n,
         order: form.order,
-        list: first(&list, form.questions.saturating_mul(2)),
+        list: list.as_slice(),
     };
     opening.write(words);
     put(words, USED_PLACE, used);

@@ -4,7 +4,7 @@ use crate::comparing::perform;
 use crate::filling::FULL_WORDS;
 use crate::run::Run;
 use crate::writing_back::ask_written;
-use evaluator::{Call, Limits, Refusal, Store, copy, first, put};
+use evaluator::{Call, Limits, Refusal, Store, Words, first, put};
 use sheet::sheet_logger_build;
 
 // The words of a sound store to break.
@@ -96,39 +96,35 @@ fn broken(way: u32) -> [u32; SIZE] {
 }
 
 // What each call must answer.
-fn no_store() -> Result<u32, Refusal> {
-    Err(Refusal::NoStore)
-}
+const NO_STORE: Result<u32, Refusal> = Err(Refusal::NoStore);
 
 // A table that is none.
 const TABLE: [u32; 3] = [7, 7, 7];
 
-// The calls that add, of handles that are there or not, on a copy of the words, of which none changes.
-fn refuse_calls(run: &mut Run, store: &[u32], words: &mut [u32]) {
-    copy(store, words);
+// The calls that add, of handles that are there or not, on a copy of the words.
+fn refuse_calls(run: &mut Run, words: &mut [u32]) {
     for call in [
         Call::Build(&TABLE),
         Call::Negate(9),
         Call::Join(9, 0),
         Call::Choose(9, 0, 1),
     ] {
-        run.expect_answer(perform(words, call), no_store());
+        run.expect_answer(perform(words, call), NO_STORE);
     }
-    run.expect_answer(sheet_logger_build(words, &TABLE), no_store());
-    run.agree(store == &*words);
+    run.expect_answer(sheet_logger_build(words, &TABLE), NO_STORE);
 }
 
-// All calls on words that the evaluator doesn't take for a sound store.
+// All calls on words that the evaluator doesn't take for a sound store, of which none changes.
 pub fn refuse_all(run: &mut Run, words: &[u32]) {
     let store = Store(words);
-    let mut copied = [0; FULL_WORDS];
+    let mut copied = Words::<FULL_WORDS>::new();
     ask_verdict(run, store, 9);
     ask_read(run, store, 9, &[1]);
     ask_example(run, store, 9, 3);
     ask_written(run, store, 9, 2);
-    if let Some(copied) = copied.get_mut(..words.len()) {
-        refuse_calls(run, words, copied);
-    }
+    copied.extend_from_slice(words);
+    refuse_calls(run, copied.as_mut_slice());
+    run.agree(copied.as_slice() == words);
 }
 
 pub fn try_all_broken(run: &mut Run) {

@@ -6,7 +6,7 @@ use crate::opening::try_opening;
 use crate::raising::throw_logger_list;
 use crate::rules::{Table, throw_rich_table, throw_table};
 use crate::run::Run;
-use evaluator::{Call, HEADING, Opening, Side, Store, Words, first};
+use evaluator::{Call, HEADING, Opening, Refusal, Side, Store, Words, first};
 use sheet::Answer;
 
 // The store at the institute and the one on the logger.
@@ -40,8 +40,9 @@ fn throw_length(chance: &mut Chance, listed: usize) -> usize {
 // One of the two has refused, which can only be for want of room; from here on the stores may differ. Where the logger's store is long enough for 201
 // entries, that many stand at the institute now.
 fn compare_refusal(run: &mut Run, stores: &Stores<'_>, there: Answer, here: Answer) {
-    run.agree(there.number == 51 || here.number == 51);
-    if here.number == 51 && Store(&*stores.logger).fits(201) {
+    let no_room = Refusal::NoRoom.number();
+    run.agree(there.number == no_room || here.number == no_room);
+    if here.number == no_room && Store(&*stores.logger).fits(201) {
         run.sides.count_full();
         run.agree(Store(&*stores.institute).used() > 200);
     }

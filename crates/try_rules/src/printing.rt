@@ -28,7 +28,9 @@ pub fn print_raw(rt: &impl Print, raw: RawTally) -> io::Result<()> {
 
 // The generated stores of each order.
 pub fn print_stores(rt: &impl Print, run: &Run) -> io::Result<()> {
-    for (order, (stores, in_one)) in run.stores.iter().zip(&run.in_one).enumerate() {
+    for (order, generated) in run.stores.iter().enumerate() {
+        let stores = generated.stores;
+        let in_one = generated.in_one;
         println!(rt; "stores in order {order}: {stores}, with a list in no other order: {in_one}")?;
     }
     Ok(())

@@ -6,7 +6,9 @@ use crate::lists::{List, ShortList, throw_list};
 use crate::orders::throw_unknown;
 use crate::run::Run;
 use crate::spoiling::throw_place;
-use evaluator::{Equation, HEADING, Opening, Store, Words, at, expect_raw_opened, found_in};
+use evaluator::{
+    Equation, HEADING, Opening, Refusal, Store, Words, at, expect_raw_opened, found_in,
+};
 use sheet::{sheet_open, sheet_open_raw};
 
 // Two equations more than a raw list may hold.
@@ -118,7 +120,7 @@ fn spoil_raw(chance: &mut Chance, raw: &mut RawList) {
 }
 
 // What the raw lists met: 17; 14 though there were more than 20 questions, for which 13 has to wait; and an accepted list of which nothing remains.
-#[derive(Clone, Copy)]
+#[derive(Clone, Copy, Default)]
 pub struct RawTally {
     pub too_many: u32,
     pub late: u32,
@@ -126,20 +128,12 @@ pub struct RawTally {
 }
 
 impl RawTally {
-    pub fn new() -> RawTally {
-        RawTally {
-            too_many: 0,
-            late: 0,
-            nothing: 0,
-        }
-    }
-
-    // An opening by its number and the questions that remain.
-    fn count(&mut self, number: u32, remain: usize) {
-        match number {
-            17 => self.too_many = self.too_many.saturating_add(1),
-            14 if remain > 20 => self.late = self.late.saturating_add(1),
-            0 if remain == 0 => self.nothing = self.nothing.saturating_add(1),
+    // An opening by what it must answer, and by the questions that remain.
+    fn count(&mut self, expected: Result<(), Refusal>, remain: usize) {
+        match expected {
+            Err(Refusal::TooManyEquations) => self.too_many = self.too_many.saturating_add(1),
+            Err(Refusal::ListedTerm) if remain > 20 => self.late = self.late.saturating_add(1),
+            Ok(()) if remain == 0 => self.nothing = self.nothing.saturating_add(1),
             _ => {}
         }
     }
@@ -148,17 +142,13 @@ impl RawTally {
 // The list that a store has, opened as a list on other words: accepted, and the same words.
 fn open_listed(run: &mut Run, store: Store<'_>) {
     let mut words = Words::<MOST_STORE>::filled(9, store.0.len());
-    let found = sheet_open(
-        store.fields(),
-        store.order(),
-        store.list(),
-        words.as_mut_slice(),
-    );
+    let Opening { n, order, list } = store.opening();
+    let found = sheet_open(n, order, list, words.as_mut_slice());
     run.agree(found.number == 0 && words.as_slice() == store.0);
 }
 
-// Gives the number of the answer.
-fn try_raw_opening(run: &mut Run, raw: Opening<'_>, store: &mut [u32]) -> u32 {
+// Gives what it must answer.
+fn try_raw_opening(run: &mut Run, raw: Opening<'_>, store: &mut [u32]) -> Result<(), Refusal> {
     let mut words = Words::<MOST_STORE>::filled(0, store.len());
     let expected = expect_raw_opened(raw, store, words.as_mut_slice());
     let found = sheet_open_raw(raw.n, raw.order, raw.list, store);
@@ -167,7 +157,7 @@ fn try_raw_opening(run: &mut Run, raw: Opening<'_>, store: &mut [u32]) -> u32 {
     if found.number == 0 {
         open_listed(run, Store(store));
     }
-    found.number
+    expected
 }
 
 // One raw list, on a store that is up to three words too short for what remains of it, or up to six longer.
@@ -177,8 +167,8 @@ fn raw_round(run: &mut Run) {
     let remain = found_in(raw.words.as_slice()).len();
     let end = HEADING - 3 + remain + run.chance.below(10) as usize;
     let mut store = Words::<MOST_STORE>::filled(7, end);
-    let number = try_raw_opening(run, raw.opening(), store.as_mut_slice());
-    run.raw.count(number, remain / 2);
+    let expected = try_raw_opening(run, raw.opening(), store.as_mut_slice());
+    run.raw.count(expected, remain / 2);
 }
 
 // A list that is in its order by both openings, each on words of its own of the same length, which may be too short.

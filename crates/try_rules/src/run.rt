@@ -5,6 +5,13 @@ use crate::sides::Sides;
 use crate::tally::Tally;
 use evaluator::{Answer, Words};
 
+// How many stores of an order were generated, and how many of them have a list that is in no other order.
+#[derive(Clone, Copy, Default)]
+pub struct Generated {
+    pub stores: u32,
+    pub in_one: u32,
+}
+
 #[derive(Clone, Copy)]
 pub struct Run {
     pub chance: Chance,
@@ -12,9 +19,8 @@ pub struct Run {
     pub differ: u64,
     // how often an answer's number was met
     pub met: Tally,
-    // how many stores of each order were generated, and how many of them have a list that is in no other order
-    pub stores: [u32; 2],
-    pub in_one: [u32; 2],
+    // the stores that were generated, by their order
+    pub stores: [Generated; 2],
     // the handles of the ledger
     pub ledger: Words<32>,
     pub sides: Sides,
@@ -28,11 +34,10 @@ impl Run {
             compared: 0,
             differ: 0,
             met: Tally::new(),
-            stores: [0; 2],
-            in_one: [0; 2],
+            stores: [Generated::default(); 2],
             ledger: Words::new(),
             sides: Sides::new(),
-            raw: RawTally::new(),
+            raw: RawTally::default(),
         }
     }
 
@@ -47,11 +52,12 @@ impl Run {
         self.count(1, usize::from(!same));
     }
 
-    // One generated store of an order.
-    pub fn count_store(&mut self, order: u32, in_one: bool) {
-        let place = (order % 2) as usize;
-        self.stores[place] = self.stores[place].saturating_add(1);
-        self.in_one[place] = self.in_one[place].saturating_add(u32::from(in_one));
+    // One store.
+    pub fn count_store(&mut self, order: u32, is_in_one: bool) {
+        if let Some(generated) = self.stores.get_mut(order as usize) {
+            generated.stores = generated.stores.saturating_add(1);
+            generated.in_one = generated.in_one.saturating_add(u32::from(is_in_one));
+        }
     }
 
     // A number that was found against the one that was expected.

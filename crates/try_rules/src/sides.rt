@@ -2,20 +2,13 @@
 use crate::tally::Tally;
 
 // How many calls of a kind both accepted, and how many both refused.
-#[derive(Clone, Copy)]
+#[derive(Clone, Copy, Default)]
 pub struct Agreed {
     pub accepted: u32,
     pub refused: u32,
 }
 
 impl Agreed {
-    fn none() -> Agreed {
-        Agreed {
-            accepted: 0,
-            refused: 0,
-        }
-    }
-
     // A call by its two numbers.
     fn count(&mut self, there: u32, here: u32) {
         if there == 0 && here == 0 {
@@ -40,8 +33,8 @@ pub struct Sides {
 impl Sides {
     pub fn new() -> Sides {
         Sides {
-            openings: Agreed::none(),
-            builds: Agreed::none(),
+            openings: Agreed::default(),
+            builds: Agreed::default(),
             institute_alone: Tally::new(),
             logger_alone: Tally::new(),
             full: 0,

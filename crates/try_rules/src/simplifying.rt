@@ -99,12 +99,13 @@ fn compare_equation(run: &mut Run, equation: Equation) {
     let limits = Limits::INSTITUTE;
     let a = sheet_simplify(equation.left, equation.right);
     run.agree(is_formed(a));
-    if equation.is_beyond(limits, limits.fields) {
-        let refused: Result<u32, Refusal> = Err(Refusal::RuleTerm);
-        run.expect_number(a.number, refused);
+    let expected = if equation.is_beyond(limits, limits.fields) {
+        Err(Refusal::RuleTerm)
     } else {
-        let accepted: Result<(), Refusal> = Ok(());
-        run.expect_number(a.number, accepted);
+        Ok(())
+    };
+    run.expect_number(a.number, expected);
+    if expected.is_ok() {
         compare_sheets(run, equation, a);
     }
 }
