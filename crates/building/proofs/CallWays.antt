@@ -9,6 +9,9 @@ use native.Mathlib.Omega.{arith}
 use borrow.Author.Tests.{ltb-true, lt-ltb}
 use lib.Dec.{eqb}
 use lib.ListN.{length}
+use Rattle.std.proofs.Common.{Bor, Ok, Err}
+use Rattle.std.specs.Result.{IsErr, IsErrAnd}
+use Rattle.std.proofs.lemmas.Result.{err_from_is_err_and}
 use Rattle.building.specs.Needs.{are_handles, CanChoose}
 use Rattle.inserting.specs.Needs.{CanAdd}
 use Rattle.inserting.specs.SubjectMeaning.{choice}
@@ -17,14 +20,12 @@ use Rattle.operations.specs.Built.{Built}
 use Rattle.operations.specs.Operations.{refused, if_sound, if_handles, if_taken, added, add_meaning, build, negate, join, choose}
 use Rattle.store.specs.Layout.{heading_length, used, leaves, entries_start, is_handle}
 use Rattle.store.specs.Meaning.{meaning}
-use Rattle.store.specs.Outcome.{Outcome}
+use Rattle.store.specs.Outcome.{Outcome, outcome}
 use Rattle.store.specs.Sound.{sound}
-use Rattle.tables.specs.declared.answer.Checked.{Checked}
-use Rattle.tables.specs.declared.answer.Checked.TheVariants.{Fine, Refused}
 use Rattle.tables.specs.declared.answer.TableFault.{TableFault}
 use Rattle.tables.specs.Faults.{table_fault}
 use Rattle.tables.specs.Rows.{rule_meaning}
-use Rattle.tables.specs.TableFault.{checked}
+use Rattle.tables.specs.TableFault.{Checked, checked}
 use Rattle.terms.specs.declared.limits.Limits.{Limits}
 use Rattle.terms.specs.Meaning.{Valuation}
 use Rattle.terms.specs.Needs.{FitLimits}
@@ -35,8 +36,8 @@ use Rattle.store.proofs.SoundFacts.{sound_says}
 use Rattle.store.proofs.Tests.{passes}
 
 -- ---- the choice of three handles
-pub choice_adds : {limits : Limits} {s : List ℕ} {a b c : ℕ} → CanChoose limits s a b c → (source : List ℕ) → CanAdd limits s source (Choice a b c)
-choice_adds can source = record { fit = can.fit; is_sound = can.is_sound; given = record { taken = (can.first_in, can.second_in, can.third_in) } }
+pub choice_adds : {limits : Limits} {s : List ℕ} {a b c : ℕ} → CanChoose limits s a b c → CanAdd limits s (Choice a b c)
+choice_adds can = record { fit = can.fit; is_sound = can.is_sound; given = record { taken = (can.first_in, can.second_in, can.third_in) } }
 
 -- ---- not and and, as choices
 module _ (limits : Limits) (s : List ℕ) where
@@ -93,11 +94,11 @@ module _ (s : List ℕ) (a b c : ℕ) {x : Bool} (ex : x ≡ is_handle s a) wher
     by_third t ez = rw (← ex, d, ← ey, t) ez
 
 -- ---- the fault of a table, by what its test answers
-none_found : (x : Option TableFault) → checked x ≡ Fine → x ≡ none
+none_found : (x : Option TableFault) → checked x ≡ Ok tt → x ≡ none
 none_found none e = refl
 none_found (some f) e = absurd (let z : ◌≡◌ {A = ℕ} 0 1 = cc in omega arith)
 
-fault_found : (x : Option TableFault) {f : TableFault} → checked x ≡ Refused f → x ≡ some f
+fault_found : (x : Option TableFault) {f : TableFault} → checked x ≡ Err f → x ≡ some f
 fault_found none e = absurd (let z : ◌≡◌ {A = ℕ} 0 1 = cc in omega arith)
 fault_found (some g) {f} e = let d : g ≡ f = cc in ap some d
 
@@ -128,15 +129,17 @@ module _ (limits : Limits) (s : List ℕ) {t : Bool} (et : t ≡ sound limits s)
       unfolding build
       build_is x ex = rw (← et, e, ex)
 
-      pub build_refused : {g : TableFault} → f ≡ Refused g → refused s (BadTable g) ≡ build limits s table
-      build_refused {g} d = build_is (some g) (fault_found (table_fault limits s table) (sym ef ∙ d))
+      pub build_refused : {g : TableFault} → f ≡ Err g → {r : Built} → IsErr r × IsErrAnd r (λ e. e ≡ BadTable g) → outcome r s ≡ build limits s table
+      build_refused {g} d {r} is =
+          let x = err_from_is_err_and r is.1 in
+          ap (λ a. outcome a s) (x.1 ∙ ap Err x.2) ∙ build_is (some g) (fault_found (table_fault limits s table) (sym ef ∙ d))
 
-      module _ (d : f ≡ Fine) where
+      module _ (d : f ≡ Ok tt) where
         taken : table_fault limits s table ≡ none
         taken = none_found (table_fault limits s table) (sym ef ∙ d)
 
-        pub can_build : FitLimits limits → CanAdd limits s table Table
-        can_build fit = record { fit = fit; is_sound = sound_is; given = record { taken = taken } }
+        pub can_build : {rows : Bor (List ℕ)} → rows.now ≡ table → FitLimits limits → CanAdd limits s (Table rows)
+        can_build same fit = record { fit = fit; is_sound = sound_is; given = record { taken = rw same taken } }
 
         pub builds : {o : Outcome Built} → o ≡ add_meaning limits s (rule_meaning table) → o ≡ build limits s table
         builds eo = eo ∙ build_is none taken

@@ -9,26 +9,23 @@ ghost use Rattle.terms.specs.Limits as limit;
 ghost use Rattle.terms.specs.Needs.{FitLimits};
 
 use inserting::add;
-use operations::{BuildFault, Built};
+use operations::BuildFault;
 use soundness::is_sound;
 use store::has_handle;
-use tables::{Checked, table_fault};
+use tables::table_fault;
 use terms::{Limits, limits_of_store};
 use walking::Subject;
 
 // Adds the diagram of a rule table within limits.
-pub fn build_within(limits: Limits, store: &mut [u32], table: &[u32]) -> Built
+pub fn build_within(limits: Limits, store: &mut [u32], table: &[u32]) -> Result<u32, BuildFault>
     requires { FitLimits limits }
     ensures { outcome result store.new ≡ operation.build limits store.old table.now }
 {
     if is_sound(limits, store) {
-        let checked = table_fault(limits, store, table);
-        let Checked::Refused(f) = checked else {
-            return add(limits, store, table, Subject::Table);
-        };
-        return Built::Refused(BuildFault::BadTable(f));
+        table_fault(limits, store, table)?;
+        return add(limits, store, Subject::Table(table));
     }
-    Built::Refused(BuildFault::NotSound)
+    Err(BuildFault::NotSound)
 }
 
 // The handles of the leaves.
@@ -37,14 +34,13 @@ const NEVER: u32 = 0;
 const ALWAYS: u32 = 1;
 
 // Adds the diagram of if a then b else c, of handles of a sound store.
-fn add_choice(limits: Limits, store: &mut [u32], a: u32, b: u32, c: u32) -> Built
+fn add_choice(limits: Limits, store: &mut [u32], a: u32, b: u32, c: u32) -> Result<u32, BuildFault>
     requires { CanChoose limits store.old a b c }
     ensures { outcome result store.new ≡ operation.add_meaning limits store.old (choice store.old a b c) }
 {
     add(
         limits,
         store,
-        &[],
         Subject::Choice {
             first: a,
             second: b,
@@ -67,7 +63,13 @@ fn has_handles(s: &[u32], a: u32, b: u32, c: u32) -> bool
 }
 
 // Adds the diagram of if a then b else c within limits.
-pub fn choose_within(limits: Limits, store: &mut [u32], a: u32, b: u32, c: u32) -> Built
+pub fn choose_within(
+    limits: Limits,
+    store: &mut [u32],
+    a: u32,
+    b: u32,
+    c: u32,
+) -> Result<u32, BuildFault>
     requires { FitLimits limits }
     ensures { outcome result store.new ≡ operation.choose limits store.old a b c }
 {
@@ -75,13 +77,13 @@ pub fn choose_within(limits: Limits, store: &mut [u32], a: u32, b: u32, c: u32) 
         if has_handles(store, a, b, c) {
             return add_choice(limits, store, a, b, c);
         }
-        return Built::Refused(BuildFault::NoHandle);
+        return Err(BuildFault::NoHandle);
     }
-    Built::Refused(BuildFault::NotSound)
+    Err(BuildFault::NotSound)
 }
 
 // Adds the diagram of a and b within limits: if a then b else never.
-pub fn join_within(limits: Limits, store: &mut [u32], a: u32, b: u32) -> Built
+pub fn join_within(limits: Limits, store: &mut [u32], a: u32, b: u32) -> Result<u32, BuildFault>
     requires { FitLimits limits }
     ensures { outcome result store.new ≡ operation.join limits store.old a b }
 {
@@ -89,7 +91,7 @@ pub fn join_within(limits: Limits, store: &mut [u32], a: u32, b: u32) -> Built
 }
 
 // Adds the diagram of not a within limits: if a then never else always.
-pub fn negate_within(limits: Limits, store: &mut [u32], a: u32) -> Built
+pub fn negate_within(limits: Limits, store: &mut [u32], a: u32) -> Result<u32, BuildFault>
     requires { FitLimits limits }
     ensures { outcome result store.new ≡ operation.negate limits store.old a }
 {
@@ -97,28 +99,28 @@ pub fn negate_within(limits: Limits, store: &mut [u32], a: u32) -> Built
 }
 
 // Builds the rule of a table.
-pub fn build(store: &mut [u32], table: &[u32]) -> Built
+pub fn build(store: &mut [u32], table: &[u32]) -> Result<u32, BuildFault>
     ensures { outcome result store.new ≡ operation.build limit.store_limits store.old table.now }
 {
     build_within(limits_of_store(), store, table)
 }
 
 // Negates a handle.
-pub fn negate(store: &mut [u32], a: u32) -> Built
+pub fn negate(store: &mut [u32], a: u32) -> Result<u32, BuildFault>
     ensures { outcome result store.new ≡ operation.negate limit.store_limits store.old a }
 {
     negate_within(limits_of_store(), store, a)
 }
 
 // Joins two handles.
-pub fn join(store: &mut [u32], a: u32, b: u32) -> Built
+pub fn join(store: &mut [u32], a: u32, b: u32) -> Result<u32, BuildFault>
     ensures { outcome result store.new ≡ operation.join limit.store_limits store.old a b }
 {
     join_within(limits_of_store(), store, a, b)
 }
 
 // Chooses by three handles.
-pub fn choose(store: &mut [u32], a: u32, b: u32, c: u32) -> Built
+pub fn choose(store: &mut [u32], a: u32, b: u32, c: u32) -> Result<u32, BuildFault>
     ensures { outcome result store.new ≡ operation.choose limit.store_limits store.old a b c }
 {
     choose_within(limits_of_store(), store, a, b, c)

@@ -1,18 +1,18 @@
 -- The check, on each way through the code: its tests are the definition's, in its order, and each gives what the next ones rely on.
-use Prim.Native.Nat.{ℕ, ◌+◌, ◌%◌, ◌≤◌, ◌<◌}
+use Prim.Native.Nat.{ℕ, ◌+◌, ◌%◌}
 use mathlib.Core.Path.{◌≡◌, refl, sym, ◌∙◌, ap}
-use mathlib.Core.Logic.{◌≢◌}
-use mathlib.Core.Bool.{Bool, true, false, ◌&&◌, and-false}
+use mathlib.Core.Bool.{Bool, true, false, ◌&&◌}
 use mathlib.Core.List.{List}
 use native.Mathlib.Omega.{arith}
-use borrow.Author.Tests.{le-leb, lt-leb, leb-true, ltb-true, eq-eqb, ne_eqb}
+use borrow.Author.Tests.{leb-true, ltb-true}
 use lib.Dec.{eqb, leb, ltb}
 use lib.ListN.{length}
 use Rattle.checking.specs.Needs.{HasEntries, AllHaveParts, Rooted, Shaped}
-use Rattle.normal_form.specs.declared.answer.CheckFault.TheVariants.{BadShape, BadTerm, HandleNotLower, EqualEntries, NotReachable, RuleApplies}
-use Rattle.normal_form.specs.declared.answer.CheckAnswer.{CheckAnswer}
-use Rattle.normal_form.specs.declared.answer.CheckAnswer.TheVariants.{Never, Always, Sometimes, Refused}
-use Rattle.normal_form.specs.Check.{shape_kept, terms_kept, handles_lower, entries_differ, all_reachable, parts_ordered, left_apart, no_rule_applies, root_verdict, check_diagram, check_entries, check}
+use Rattle.normal_form.specs.declared.answer.CheckFault.TheVariants.{BadTerm, HandleNotLower, EqualEntries, NotReachable, RuleApplies}
+use Rattle.normal_form.specs.CheckAnswer.{CheckAnswer}
+use Rattle.std.specs.Prelude.{Ok, Err}
+use Rattle.store.specs.declared.verdict.Verdict.{Verdict}
+use Rattle.normal_form.specs.Check.{shape_kept, terms_kept, handles_lower, entries_differ, all_reachable, parts_ordered, left_apart, no_rule_applies, root_verdict, check_diagram, check_entries}
 use Rattle.normal_form.specs.Limits.{most_table_entries, table_limits}
 use Rattle.normal_form.specs.Table.{entry_length, entry_count, entry}
 use Rattle.normal_form.proofs.PassesKept.{lower_yes, lower_no}
@@ -23,19 +23,6 @@ use Rattle.checking.proofs.EntryWays.{fits_less}
 
 -- ---- the shape
 module _ (t : List ℕ) (root : ℕ) where
-  pub part_of_entry : length t % entry_length ≢ 0 → false ≡ shape_kept table_limits t root
-  unfolding shape_kept
-  part_of_entry n = simp (ne_eqb _ _ n)
-
-  module _ (whole : length t % entry_length ≡ 0) where
-    pub too_many : most_table_entries < entry_count t → false ≡ shape_kept table_limits t root
-    unfolding shape_kept
-    too_many h = simp (lt-leb (entry_count t) most_table_entries h, and-false)
-
-    pub by_root : {h : ℕ} → h ≡ root → entry_count t ≤ most_table_entries → ltb h (entry_count t + leaves) ≡ shape_kept table_limits t root
-    unfolding shape_kept
-    by_root e h = rw (e, eq-eqb _ _ whole, le-leb (entry_count t) most_table_entries h)
-
   pub sized : {b : Bool} → b ≡ shape_kept table_limits t root → b ≡ true → Shaped t root (entry_count t)
   unfolding shape_kept
   sized eb s =
@@ -62,23 +49,12 @@ module _ {t : List ℕ} {count : ℕ} (k : AllHaveParts t count) {a : Bool} (ea 
   unfolding no_rule_applies
   by_lefts s eb = eb ∙ ap (λ n. all_below n (left_apart table_limits t)) k.whole ∙ rw (← ordered, s)
 
--- ---- the root
-module _ (root : ℕ) where
-  pub root_never : root ≡ 0 → Never ≡ root_verdict root
-  root_never e = rw e
-
-  pub root_always : root ≡ 1 → Always ≡ root_verdict root
-  root_always e = rw e
-
-  pub root_sometimes : root ≢ 0 → root ≢ 1 → Sometimes ≡ root_verdict root
-  root_sometimes n m = simp (ne_eqb _ _ n, ne_eqb _ _ m)
-
 -- ---- 84 to 86
 module _ {t : List ℕ} {root count : ℕ} (r : Rooted t root count) {a : Bool} (ea : a ≡ entries_differ t count) where
   differ : a ≡ entries_differ t (entry_count t)
   differ = ea ∙ ap (entries_differ t) r.entries.whole
 
-  pub says_equal : a ≡ false → Refused EqualEntries ≡ check_diagram table_limits t root
+  pub says_equal : a ≡ false → Err EqualEntries ≡ check_diagram table_limits t root
   unfolding check_diagram
   says_equal d = rw (← differ, d)
 
@@ -86,18 +62,18 @@ module _ {t : List ℕ} {root count : ℕ} (r : Rooted t root count) {a : Bool} 
     reached : b ≡ all_reachable table_limits t root
     reached = eb ∙ ap (all_reachable table_limits t) eh
 
-    pub says_not_reachable : b ≡ false → Refused NotReachable ≡ check_diagram table_limits t root
+    pub says_not_reachable : b ≡ false → Err NotReachable ≡ check_diagram table_limits t root
     unfolding check_diagram
     says_not_reachable d = rw (← differ, sa, ← reached, d)
 
     module _ (sb : b ≡ true) {c : Bool} (ec : c ≡ no_rule_applies table_limits t) where
-      pub says_rule : c ≡ false → Refused RuleApplies ≡ check_diagram table_limits t root
+      pub says_rule : c ≡ false → Err RuleApplies ≡ check_diagram table_limits t root
       unfolding check_diagram
       says_rule d = rw (← differ, sa, ← reached, sb, ← ec, d)
 
-      pub says_verdict : c ≡ true → {v : CheckAnswer} → v ≡ root_verdict root → v ≡ check_diagram table_limits t root
+      pub says_verdict : c ≡ true → {v : Verdict} → v ≡ root_verdict root → Ok v ≡ check_diagram table_limits t root
       unfolding check_diagram
-      says_verdict d ev = ev ∙ rw (← differ, sa, ← reached, sb, ← ec, d)
+      says_verdict d ev = ap {B = CheckAnswer} Ok ev ∙ rw (← differ, sa, ← reached, sb, ← ec, d)
 
 -- ---- 82 and 83
 module _ {t : List ℕ} {root count : ℕ} (z : Shaped t root count) where
@@ -108,7 +84,7 @@ module _ {t : List ℕ} {root count : ℕ} (z : Shaped t root count) where
     terms : a ≡ all_below (entry_count t) (λ i. terms_kept table_limits (entry t i))
     terms = ea ∙ ap (λ n. all_below n (λ i. terms_kept table_limits (entry t i))) z.whole
 
-    pub says_term : a ≡ false → Refused BadTerm ≡ check_entries table_limits t root
+    pub says_term : a ≡ false → Err BadTerm ≡ check_entries table_limits t root
     unfolding check_entries
     says_term d = rw (← terms, d)
 
@@ -116,7 +92,7 @@ module _ {t : List ℕ} {root count : ℕ} (z : Shaped t root count) where
       handles : b ≡ all_below (entry_count t) (λ i. handles_lower (entry t i) i)
       handles = eb ∙ ap (λ n. all_below n (λ i. handles_lower (entry t i) i)) z.whole
 
-      pub says_handle : b ≡ false → Refused HandleNotLower ≡ check_entries table_limits t root
+      pub says_handle : b ≡ false → Err HandleNotLower ≡ check_entries table_limits t root
       unfolding check_entries
       says_handle d = rw (← terms, sa, ← handles, d)
 
@@ -140,13 +116,3 @@ module _ {t : List ℕ} {root count : ℕ} (z : Shaped t root count) where
         };
         root_low = z.root_low;
       }
-
--- ---- 81
-module _ (t : List ℕ) (root : ℕ) {b : Bool} (eb : b ≡ shape_kept table_limits t root) where
-  pub says_shape : b ≡ false → Refused BadShape ≡ check table_limits t root
-  unfolding check
-  says_shape d = rw (← eb, d)
-
-  pub says_entries : b ≡ true → {v : CheckAnswer} → v ≡ check_entries table_limits t root → v ≡ check table_limits t root
-  unfolding check
-  says_entries s ev = ev ∙ rw (← eb, s)

@@ -1,9 +1,5 @@
 pub mod EntryWays
-pub mod PassWays
-pub mod TermWays
-pub mod HandleWays
 pub mod MarkWays
-pub mod OrderWays
 pub mod FieldSets
 pub mod NameWays
 pub mod CheckWays

@@ -1,7 +1,7 @@
 -- Rule 8' by sets of fields, turn by turn: the sets after so many entries are the definition's, and a left field is looked up in them.
 use Prim.Native.Nat.{ℕ, ◌+◌, ◌≤◌, ◌<◌, ◌^◌}
 use mathlib.Core.Path.{◌≡◌, ◌∙◌, ap}
-use mathlib.Core.Bool.{Bool, true, false}
+use mathlib.Core.Bool.{Bool, false, not}
 use mathlib.Core.List.{List}
 use native.Mathlib.Numerals.{add-one}
 use native.Mathlib.Omega.{arith}
@@ -71,10 +71,6 @@ module _ (t : List ℕ) (i : ℕ) {sets : List ℕ} (all : AllNamed t sets) {e :
   looked_up : b ≡ get_or (named table_limits (asks (entry t i)).left.field.0 t (entry_count t)) (entry t i).yes false
   looked_up = eb ∙ rw (all.are, eg, ey, ee) (sets_are_flags t (asks (entry t i)).left.field.0 (entry_count t) (entry t i).yes all.few)
 
-  pub named_below : b ≡ true → false ≡ left_apart table_limits t i
+  pub left_looked_up : not b ≡ left_apart table_limits t i
   unfolding left_apart
-  named_below s = rw (← looked_up, s)
-
-  pub not_below : b ≡ false → true ≡ left_apart table_limits t i
-  unfolding left_apart
-  not_below s = rw (← looked_up, s)
+  left_looked_up = rw (← looked_up)

@@ -5,7 +5,7 @@ ghost use Rattle.normal_form.specs.Table as table;
 
 use normal_form::{Entry, MOST_TABLE_ENTRIES};
 use store::LEAVES;
-use terms::{Equation, term_of};
+use terms::Equation;
 
 // The words of an entry: left term, right term, yes handle, no handle.
 pub const ENTRY_LENGTH: usize = 4;
@@ -36,8 +36,5 @@ pub fn entry_of(t: &[u32], i: usize) -> Entry
 pub fn equation_of(e: Entry) -> Equation
     ensures { result ≡ table.asks e }
 {
-    Equation {
-        left: term_of(e.left),
-        right: term_of(e.right),
-    }
+    Equation::of_words(e.left, e.right)
 }

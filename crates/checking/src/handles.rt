@@ -9,16 +9,14 @@ use crate::entries::entry_of;
 use store::{LEAVES, wide};
 
 // Whether the handles of the i-th entry are lower than its own.
+#[tactic(auto, unfolding(normal_form::specs::Check::handles_lower))]
 fn handles_lower(t: &[u32], i: usize) -> bool
     requires { HasEntries t.now (i + 1) }
     ensures { result ≡ rule.handles_lower (table.entry t.now i) i }
 {
     let e = entry_of(t, i);
     let own = i + LEAVES;
-    if wide(e.yes) < own {
-        return wide(e.no) < own;
-    }
-    false
+    wide(e.yes) < own && wide(e.no) < own
 }
 
 // Whether this is so of each entry.
@@ -26,13 +24,5 @@ pub fn all_handles_lower(t: &[u32], count: usize) -> bool
     requires { HasEntries t.now count }
     ensures { result ≡ all_below count (λ i. rule.handles_lower (table.entry t.now i) i) }
 {
-    let mut i: usize = 0;
-    while i < count {
-        if handles_lower(t, i) {
-            i += 1;
-        } else {
-            return false;
-        }
-    }
-    true
+    (0..count).all(|i| handles_lower(t, i))
 }

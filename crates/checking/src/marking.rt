@@ -18,10 +18,8 @@ fn mark_parts(t: &[u32], i: usize, marks: &mut Flags)
 {
     if marks[i + LEAVES] {
         let e = entry_of(t, i);
-        let y = wide(e.yes);
-        let n = wide(e.no);
-        marks[y] = true;
-        marks[n] = true;
+        marks[wide(e.yes)] = true;
+        marks[wide(e.no)] = true;
     }
 }
 
@@ -32,27 +30,9 @@ fn mark_down(t: &[u32], root: usize, count: usize, marks: &mut Flags)
     ensures { marks.new ≡ reach.reachable table_limits t.now root }
 {
     marks[root] = true;
-    let mut k = count;
-    while 0 < k {
-        k -= 1;
-        mark_parts(t, k, marks);
+    for i in (0..count).rev() {
+        mark_parts(t, i, marks);
     }
-}
-
-// Whether each entry is marked.
-fn all_marked(marks: &Flags, count: usize) -> bool
-    requires { count ≤ most_table_entries }
-    ensures { result ≡ all_below count (λ i. get_or marks.now (i + leaves) false) }
-{
-    let mut i: usize = 0;
-    while i < count {
-        if marks[i + LEAVES] {
-            i += 1;
-        } else {
-            return false;
-        }
-    }
-    true
 }
 
 // Whether each entry is reachable from the root.
@@ -62,5 +42,5 @@ pub fn all_reachable(t: &[u32], root: usize, count: usize) -> bool
 {
     let mut marks = [false; HANDLES];
     mark_down(t, root, count, &mut marks);
-    all_marked(&marks, count)
+    (0..count).all(|i| marks[i + LEAVES])
 }

@@ -20,10 +20,7 @@ fn fields_at(t: &[u32], i: usize, sets: &FieldSets) -> u32
     ensures { result ≡ fields_at t.now i sets.now }
 {
     let e = entry_of(t, i);
-    let here = both_fields(equation_of(e));
-    let y = wide(e.yes);
-    let n = wide(e.no);
-    here | (sets[y] | sets[n])
+    both_fields(equation_of(e)) | (sets[wide(e.yes)] | sets[wide(e.no)])
 }
 
 // Finds the fields named at or below each handle.
@@ -32,11 +29,8 @@ fn name_up(t: &[u32], count: usize, sets: &mut FieldSets)
     requires sets_value { sets.old ≡ replicate most_handles 0 }
     ensures { AllNamed t.now sets.new }
 {
-    let mut i: usize = 0;
-    while i < count {
-        let set = fields_at(t, i, sets);
-        sets[i + LEAVES] = set;
-        i += 1;
+    for i in 0..count {
+        sets[i + LEAVES] = fields_at(t, i, sets);
     }
 }
 
@@ -47,29 +41,7 @@ fn left_apart(t: &[u32], i: usize, sets: &FieldSets) -> bool
     ensures { result ≡ rule.left_apart table_limits t.now i }
 {
     let e = entry_of(t, i);
-    let g = equation_of(e);
-    let y = wide(e.yes);
-    if has_field(sets[y], g.left.field.0) {
-        return false;
-    }
-    true
-}
-
-// Whether this is so of each entry, by the fields named at or below each handle.
-fn all_apart(t: &[u32], count: usize, sets: &FieldSets) -> bool
-    requires all_have_parts { AllHaveParts t.now count }
-    requires all_named { AllNamed t.now sets.now }
-    ensures { result ≡ all_below count (rule.left_apart table_limits t.now) }
-{
-    let mut i: usize = 0;
-    while i < count {
-        if left_apart(t, i, sets) {
-            i += 1;
-        } else {
-            return false;
-        }
-    }
-    true
+    !has_field(sets[wide(e.yes)], equation_of(e).left.field.0)
 }
 
 // Whether no entry's left field is named in its yes part.
@@ -79,5 +51,5 @@ pub fn lefts_apart(t: &[u32], count: usize) -> bool
 {
     let mut sets = [0u32; HANDLES];
     name_up(t, count, &mut sets);
-    all_apart(t, count, &sets)
+    (0..count).all(|i| left_apart(t, i, &sets))
 }

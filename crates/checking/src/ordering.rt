@@ -13,27 +13,23 @@ fn asks_after(t: &[u32], g: Equation, handle: usize) -> bool
     requires { NamesEntry t.now handle }
     ensures { result ≡ rule.asks_after t.now g handle }
 {
-    if handle < LEAVES {
-        return true;
-    }
-    let h = equation_of(entry_of(t, handle - LEAVES));
-    precedes(ListOrder::FieldsFirst, g, h)
+    handle < LEAVES
+        || precedes(
+            ListOrder::FieldsFirst,
+            g,
+            equation_of(entry_of(t, handle - LEAVES)),
+        )
 }
 
 // Whether rules 3 to 7 do not apply at the i-th entry.
+#[tactic(auto, unfolding(normal_form::specs::Check::parts_ordered))]
 fn parts_ordered(t: &[u32], i: usize) -> bool
     requires { HasParts t.now i }
     ensures { result ≡ rule.parts_ordered t.now i }
 {
     let e = entry_of(t, i);
-    if e.yes == e.no {
-        return false;
-    }
     let g = equation_of(e);
-    if asks_after(t, g, wide(e.yes)) {
-        return asks_after(t, g, wide(e.no));
-    }
-    false
+    e.yes != e.no && asks_after(t, g, wide(e.yes)) && asks_after(t, g, wide(e.no))
 }
 
 // Whether they apply at no entry.
@@ -41,13 +37,5 @@ pub fn all_ordered(t: &[u32], count: usize) -> bool
     requires { AllHaveParts t.now count }
     ensures { result ≡ all_below count (rule.parts_ordered t.now) }
 {
-    let mut i: usize = 0;
-    while i < count {
-        if parts_ordered(t, i) {
-            i += 1;
-        } else {
-            return false;
-        }
-    }
-    true
+    (0..count).all(|i| parts_ordered(t, i))
 }

@@ -11,19 +11,14 @@ use normal_form::limits_of_table;
 use terms::{allows, is_simplified};
 
 // Whether the terms of the i-th entry are within the limits, and its equation is simplified.
+#[tactic(auto, unfolding(normal_form::specs::Check::terms_kept))]
 fn terms_kept(t: &[u32], i: usize) -> bool
     requires { HasEntries t.now (i + 1) }
     ensures { result ≡ rule.terms_kept table_limits (table.entry t.now i) }
 {
-    let limits = limits_of_table();
-    let terms = limits.terms;
+    let terms = limits_of_table().terms;
     let g = equation_of(entry_of(t, i));
-    if allows(terms, g.left) {
-        if allows(terms, g.right) {
-            return is_simplified(g);
-        }
-    }
-    false
+    allows(terms, g.left) && allows(terms, g.right) && is_simplified(g)
 }
 
 // Whether this is so of each entry.
@@ -31,13 +26,5 @@ pub fn all_terms_kept(t: &[u32], count: usize) -> bool
     requires { HasEntries t.now count }
     ensures { result ≡ all_below count (λ i. rule.terms_kept table_limits (table.entry t.now i)) }
 {
-    let mut i: usize = 0;
-    while i < count {
-        if terms_kept(t, i) {
-            i += 1;
-        } else {
-            return false;
-        }
-    }
-    true
+    (0..count).all(|i| terms_kept(t, i))
 }

@@ -1,11 +1,12 @@
 -- What is done with the list that was collected, on each way through the code: the tests on that way decide the definition's own tests.
-use Prim.Native.Nat.{ℕ, ◌+◌, ◌-◌, ◌*◌, ◌/◌, ◌≤◌, ◌<◌, ◌^◌}
+use Prim.Native.Nat.{ℕ, ◌+◌, ◌-◌, ◌*◌, ◌/◌, ◌%◌, ◌≤◌, ◌<◌, ◌^◌}
 use mathlib.Core.Path.{◌≡◌, sym, ap, ◌∙◌}
+use mathlib.Core.Logic.{◌≢◌}
 use mathlib.Core.Bool.{true, false}
 use mathlib.Core.List.{List}
 use native.Mathlib.Nat.{sub-zero}
 use native.Mathlib.Omega.{arith}
-use borrow.Author.Tests.{lt-ltb, le-ltb}
+use borrow.Author.Tests.{lt-ltb, le-ltb, ne_eqb}
 use lib.Dec.{ltb}
 use lib.ListN.{length, take, length-take}
 use lib.Seq.{length-take-le}
@@ -13,18 +14,19 @@ use Rattle.store.specs.Layout.{heading_length}
 use Rattle.store.specs.Open.{opened_words}
 use Rattle.store.specs.Outcome.{Outcome, outcome}
 use Rattle.terms.specs.declared.limits.Limits.{Limits}
-use Rattle.terms.specs.declared.limits.TermLimits.{TermLimits}
 use Rattle.terms.specs.declared.order.ListOrder.{ListOrder}
 use Rattle.terms.specs.Limits.{terms_within}
-use Rattle.terms.specs.Order.{Order, order_of, order_number}
+use Rattle.terms.specs.Order.{order_of, order_number}
 use Rattle.raw_lists.specs.declared.answer.RawFault.TheVariants.{OutOfLimits, TooManyQuestions, TooShort}
 use Rattle.raw_lists.specs.RawOpened.{RawOpened}
-use Rattle.std.specs.Prelude.{Ok}
-use Rattle.collecting.specs.declared.collecting.Collected.{Collected}
-use Rattle.collecting.specs.declared.collecting.Collected.TheVariants as collected
-use Rattle.raw_lists.specs.Equations.{equations, words_of}
-use Rattle.collecting.specs.Needs.{Holds, Collects}
-use Rattle.raw_lists.specs.OpenRaw.{all_allowed, resulting_list, raw_refused, open_resulting, open_collected}
+use Rattle.std.specs.Prelude.{Result, Ok, Err}
+use Rattle.collecting.specs.declared.questions.Questions.{Questions}
+use Rattle.terms.specs.declared.simplification.OutOfLimits as out
+use Rattle.raw_lists.specs.Equations.{equations}
+use Rattle.raw_lists.specs.Equations as raw_equations
+use Rattle.collecting.specs.Needs.{Holds, Collects, words_of}
+use Rattle.raw_lists.specs.Limits.{most_equations}
+use Rattle.raw_lists.specs.OpenRaw.{all_allowed, resulting_list, raw_refused, open_resulting, open_collected, open_raw_in}
 use Rattle.raw_lists.specs.Resulting.{resulting}
 use Rattle.raw_lists.proofs.EquationWords.{words_of_equations}
 
@@ -61,29 +63,25 @@ module _ (limits : Limits) (n order : ℕ) (words : List ℕ) (count : ℕ) (s :
       opens e = rw (short, le-ltb (length s) (heading_length + length list) list_room, e, sub-zero)
 
 -- ---- what is collected
--- in any order, of a raw list whose terms are not within the limits, or of one whose terms are
-module _ (by : Order) (limits : Limits) (n : ℕ) (raw : List ℕ) (t : TermLimits) (et : t ≡ terms_within limits n) (c : Collected) (words : List ℕ)
-    (of : Collects by t (equations raw) c words) where
-  within : Collects by (terms_within limits n) (equations raw) c words
-  within = rw et at of
-
-  pub out_of_limits : (order : ListOrder) (s : List ℕ) → c ≡ collected.OutOfLimits → raw_refused s OutOfLimits ≡ open_collected order limits n raw s
+module _ (order : ListOrder) (limits : Limits) (n : ℕ) (raw s : List ℕ) {c : Result Questions out.OutOfLimits} (of : Collects (order_of order) (terms_within limits n) (equations raw) c) where
+  pub out_of_limits : {f : out.OutOfLimits} {r : RawOpened} → c ≡ Err f → r ≡ Err OutOfLimits → outcome r s ≡ open_collected order limits n raw s
   unfolding open_collected
-  out_of_limits order s i = rw (rw i at within)
+  out_of_limits i d = rw (d, rw i at of)
 
-  pub collected_fit : {count : ℕ} → c ≡ collected.Questions count → 2 * count ≤ length words
-  collected_fit i = (rw i at within).1.fit
+  module _ {q : Questions} (i : c ≡ Ok q) where
+    found : (all_allowed (terms_within limits n) (equations raw) ≡ true) × Holds q.words q.count (resulting (order_of order) (equations raw))
+    found = rw i at of
 
--- in the order that the list is to have
-module _ (order : ListOrder) (limits : Limits) (n : ℕ) (raw s : List ℕ) (t : TermLimits) (et : t ≡ terms_within limits n) (c : Collected) (words : List ℕ)
-    (of : Collects (order_of order) t (equations raw) c words) {count : ℕ} (i : c ≡ collected.Questions count) where
-  found : (all_allowed (terms_within limits n) (equations raw) ≡ true) × Holds words count (resulting (order_of order) (equations raw))
-  found = rw i at (within (order_of order) limits n raw t et c words of)
+    list_is : words_of q ≡ resulting_list order raw
+    list_is =
+        sym (words_of_equations q.count (words_of q) (omega (arith, length-take (2 * q.count) q.words, found.1.fit))) ∙ ap raw_equations.words_of found.1.are
 
-  list_is : take (2 * count) words ≡ resulting_list order raw
-  list_is =
-      sym (words_of_equations count (take (2 * count) words) (omega (arith, length-take (2 * count) words, found.1.fit))) ∙ ap words_of found.1.are
+    pub opens_resulting : {k : ℕ} → k ≡ order_number order → {o : Outcome RawOpened} → o ≡ open_resulting limits n k (words_of q) s → o ≡ open_collected order limits n raw s
+    unfolding open_collected
+    opens_resulting ek eo = rw found.0 (eo ∙ λ j. open_resulting limits n (ek j) (list_is j) s)
 
-  pub opens_resulting : {k : ℕ} → k ≡ order_number order → {o : Outcome RawOpened} → o ≡ open_resulting limits n k (take (2 * count) words) s → o ≡ open_collected order limits n raw s
-  unfolding open_collected
-  opens_resulting ek eo = rw found.0 (eo ∙ λ j. open_resulting limits n (ek j) (list_is j) s)
+-- ---- an even raw list of few equations
+module _ (order : ListOrder) (limits : Limits) (n : ℕ) (raw s : List ℕ) where
+  pub taken_in : length raw % 2 ≢ 1 → length raw / 2 ≤ most_equations → {o : Outcome RawOpened} → o ≡ open_collected order limits n raw s → o ≡ open_raw_in order limits n raw s
+  unfolding open_raw_in
+  taken_in even few e = e ∙ rw (ne_eqb (length raw % 2) 1 even, le-ltb most_equations (length raw / 2) few)

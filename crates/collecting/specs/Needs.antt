@@ -1,10 +1,10 @@
 -- What the code relies on, and no claim.
-use Rattle.std.specs.Prelude.{ℕ, suc, ◌+◌, ◌*◌, ◌/◌, ◌≤◌, ◌≡◌, Bool, true, false, cond, not, List, [], ◌∷◌, length, take, drop}
+use Rattle.std.specs.Prelude.{ℕ, suc, ◌+◌, ◌*◌, ◌≤◌, ◌≡◌, Bool, true, false, cond, not, List, [], ◌∷◌, length, take, drop, Result, Ok, Err}
 use Rattle.terms.specs.declared.limits.TermLimits.{TermLimits}
 use Rattle.terms.specs.declared.term.Equation.{Equation}
 use Rattle.terms.specs.Order.{Order, before}
-use Rattle.collecting.specs.declared.collecting.Collected.{Collected}
-use Rattle.collecting.specs.declared.collecting.Collected.TheVariants.{Questions, OutOfLimits}
+use Rattle.collecting.specs.declared.questions.Questions.{Questions}
+use Rattle.terms.specs.declared.simplification.OutOfLimits.{OutOfLimits}
 use Rattle.raw_lists.specs.Equations.{equations}
 use Rattle.raw_lists.specs.OpenRaw.{both_allowed, all_allowed}
 use Rattle.raw_lists.specs.Resulting.{with_equation, collected, resulting}
@@ -34,18 +34,21 @@ pub record HasPut (qs : List Equation) (words : List ℕ) (count found : ℕ) : 
   pub holds : Holds words found qs
 
 -- what became of one raw equation, and of a raw list
-abbrev pub CollectsOne : Order → TermLimits → Equation → List Equation → ℕ → Collected → List ℕ → Type 0
-CollectsOne order limits e qs count (Questions found) words =
-    (both_allowed limits e ≡ true) × HasPut (with_equation order e qs) words count found
-CollectsOne order limits e qs count OutOfLimits words = both_allowed limits e ≡ false
+abbrev pub CollectsOne : Order → TermLimits → Equation → Questions → Result Unit OutOfLimits → Questions → Type 0
+CollectsOne order limits e old (Ok done) new =
+    (both_allowed limits e ≡ true) × HasPut (with_equation order e (first_questions old.words old.count)) new.words old.count new.count
+CollectsOne order limits e old (Err fault) new = both_allowed limits e ≡ false
 
 -- with the first k equations of a raw list collected: what is to come of the rest is what is to come of all
-pub record Collecting (order : Order) (limits : TermLimits) (raw words : List ℕ) (count k : ℕ) : Type 0 where
-  pub fit : 2 * (length raw / 2) ≤ length words
-  pub few : count ≤ k
+pub record Collecting (order : Order) (limits : TermLimits) (raw : List ℕ) (q : Questions) (k : ℕ) : Type 0 where
+  pub few : q.count ≤ k
   pub allowed : all_allowed limits (equations raw) ≡ all_allowed limits (equations (drop (2 * k) raw))
-  pub results : resulting order (equations raw) ≡ collected order (first_questions words count) (equations (drop (2 * k) raw))
+  pub results : resulting order (equations raw) ≡ collected order (first_questions q.words q.count) (equations (drop (2 * k) raw))
 
-abbrev pub Collects : Order → TermLimits → List Equation → Collected → List ℕ → Type 0
-Collects order limits es (Questions found) words = (all_allowed limits es ≡ true) × Holds words found (resulting order es)
-Collects order limits es OutOfLimits words = all_allowed limits es ≡ false
+abbrev pub Collects : Order → TermLimits → List Equation → Result Questions OutOfLimits → Type 0
+Collects order limits es (Ok found) = (all_allowed limits es ≡ true) × Holds found.words found.count (resulting order es)
+Collects order limits es (Err fault) = all_allowed limits es ≡ false
+
+-- the words of questions
+abbrev pub words_of : Questions → List ℕ
+words_of q = take (2 * q.count) q.words

@@ -1,41 +1,24 @@
 // What build, negate, join and choose must answer within limits, and the words that they must leave, where the grid covers the store's list.
-use crate::answer::{Answer, accepted, refused};
-use crate::calls::{Row, call_fault};
-use crate::drawing::{draw, ways_of};
-use crate::entries::has_room;
-use crate::layout::{questions, used};
+use crate::calls::Call;
+use crate::drawing::draw_call;
+use crate::layout::Store;
 use crate::limits::Limits;
+use crate::refusals::Refusal;
 use crate::words::copy;
 
-// Draws the call's diagram into a copy of the store's words, which is made anew where there is no room.
-fn expect_drawn(
-    limits: Limits,
-    store: &[u32],
-    call: Row,
-    table: &[u32],
-    words: &mut [u32],
-) -> Answer {
-    let ways = ways_of(store, call, table);
-    let handle = draw(words, &ways, 0, 1, questions(store) % 32);
-    if !has_room(limits, store, used(words)) {
-        copy(store, words);
-        return refused(51);
-    }
-    accepted(handle)
-}
-
-// The answer of a call; the store's words afterwards go into a slice that is long enough.
+// The handle that a call returns; the store's words afterwards go into a slice that is long enough. They are made anew where the diagram has no room.
 pub fn expect_added(
     limits: Limits,
-    store: &[u32],
-    call: Row,
-    table: &[u32],
+    store: Store<'_>,
+    call: Call<'_>,
     words: &mut [u32],
-) -> Answer {
-    copy(store, words);
-    let fault = call_fault(limits, store, call, table);
-    if fault != 0 {
-        return refused(fault);
+) -> Result<u32, Refusal> {
+    copy(store.0, words);
+    call.check(limits, store)?;
+    let handle = draw_call(store, call, words);
+    if !store.has_room(limits, Store(words).used()) {
+        copy(store.0, words);
+        return Err(Refusal::NoRoom);
     }
-    expect_drawn(limits, store, call, table, words)
+    Ok(handle.unwrap_or(0))
 }

@@ -1,82 +1,43 @@
 // A call of build, negate, join or choose: its refusal, and the meaning that it is to add.
-use crate::answer::refuse;
-use crate::grid::sheet_of;
-use crate::layout::fields;
+use crate::layout::Store;
 use crate::limits::Limits;
-use crate::rules::table_fault;
-use crate::sound::{has_handle, is_sound};
-use crate::truth::{combined, handle_truth, rule_truth};
+use crate::refusals::Refusal;
+use crate::rules::check_table;
+use crate::truth::rule_truth;
 
-// A row of a rule table: its kind and its columns. A call is given by the row that it stands for: 2 build, 3 negate, 4 join, 5 choose.
+// A call with its rule table or its handles.
 #[derive(Clone, Copy)]
-pub struct Row {
-    pub kind: u32,
-    pub a: u32,
-    pub b: u32,
-    pub c: u32,
+pub enum Call<'a> {
+    Build(&'a [u32]),
+    Negate(u32),
+    Join(u32, u32),
+    Choose(u32, u32, u32),
 }
 
-// A row or a call with the columns that it takes, and zeros in the others. Build takes none.
-pub fn row_of(kind: u32, a: u32, b: u32, c: u32) -> Row {
-    match kind {
-        3 => Row {
-            kind: 3,
-            a: a,
-            b: 0,
-            c: 0,
-        },
-        4 => Row {
-            kind: 4,
-            a: a,
-            b: b,
-            c: 0,
-        },
-        5 => Row {
-            kind: 5,
-            a: a,
-            b: b,
-            c: c,
-        },
-        _ => Row {
-            kind: 2,
-            a: 0,
-            b: 0,
-            c: 0,
-        },
+impl Call<'_> {
+    // The store, and then the rule table or the handles.
+    pub fn check(self, limits: Limits, store: Store<'_>) -> Result<(), Refusal> {
+        if !store.is_sound(limits) {
+            return Err(Refusal::NoStore);
+        }
+        match self {
+            Call::Build(table) => check_table(limits, store, table),
+            Call::Negate(a) => store.check_handles(&[a]),
+            Call::Join(a, b) => store.check_handles(&[a, b]),
+            Call::Choose(a, b, c) => store.check_handles(&[a, b, c]),
+        }
     }
-}
 
-// The refusal of the store, and then of the rule table or of the handles; 0 if there is none.
-pub fn call_fault(limits: Limits, store: &[u32], call: Row, table: &[u32]) -> u32 {
-    if !is_sound(limits, store) {
-        return 22;
+    // The meaning of a call at a sheet.
+    pub fn truth(self, store: Store<'_>, sheet: &[u16]) -> bool {
+        match self {
+            Call::Build(table) => rule_truth(table, sheet),
+            Call::Negate(a) => !store.truth(a, sheet),
+            Call::Join(a, b) => store.truth(a, sheet) && store.truth(b, sheet),
+            Call::Choose(a, b, c) => {
+                let chosen = if store.truth(a, sheet) { b } else { c };
+                store.truth(chosen, sheet)
+            }
+        }
     }
-    let kind = call.kind;
-    match kind {
-        2 => table_fault(limits, store, table),
-        _ => handles_fault(store, call.a, call.b, call.c),
-    }
-}
-
-fn handles_fault(store: &[u32], a: u32, b: u32, c: u32) -> u32 {
-    let all = has_handle(store, a) & has_handle(store, b) & has_handle(store, c);
-    refuse(0, !all, 41)
-}
-
-// The meaning of a call at a sheet of the grid.
-pub fn call_truth(store: &[u32], call: Row, table: &[u32], number: u32) -> bool {
-    let sheet = sheet_of(fields(store), number);
-    sheet_truth(store, call, table, &sheet)
-}
-
-fn sheet_truth(store: &[u32], call: Row, table: &[u32], sheet: &[u16]) -> bool {
-    if call.kind == 2 {
-        return rule_truth(table, sheet);
-    }
-    combined(
-        call.kind,
-        handle_truth(store, call.a, sheet),
-        handle_truth(store, call.b, sheet),
-        handle_truth(store, call.c, sheet),
-    )
 }

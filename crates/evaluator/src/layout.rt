@@ -1,47 +1,51 @@
-// The words of a term, of a rule table and of a store's heading and list, as documents 01 and 02 lay them out.
-use crate::words::word_at;
+// The words of a store's heading and list, as documents 01 and 02 lay them out.
+use crate::equations::Equation;
+use crate::limits::Limits;
+use crate::words::at;
 
-pub fn field(term: u32) -> u32 {
-    term % 32
-}
-
-pub fn steps(term: u32) -> u32 {
-    term / 32
-}
-
-// A word of row r: kind, a, b, c.
-pub fn cell(table: &[u32], r: u32, column: u32) -> u32 {
-    word_at(table, 4 * (r as usize) + column as usize)
-}
+// The words of a store, or words that are to be one.
+#[derive(Clone, Copy)]
+pub struct Store<'a>(pub &'a [u32]);
 
 // The words of a store's heading, after which its list begins.
 pub const HEADING: usize = 4;
 
-pub fn fields(store: &[u32]) -> u32 {
-    word_at(store, 0)
-}
-
-pub fn questions(store: &[u32]) -> u32 {
-    word_at(store, 1)
-}
-
-pub fn used(store: &[u32]) -> u32 {
-    word_at(store, 2)
-}
+// The place of the word that says how many entries are used.
+pub const USED_PLACE: usize = 2;
 
 // The place of the word that names the order.
 pub const ORDER_PLACE: usize = 3;
 
-// The order that the list is in by the store's own words.
-pub fn order(store: &[u32]) -> u32 {
-    word_at(store, ORDER_PLACE)
-}
+impl<'a> Store<'a> {
+    pub fn fields(self) -> u32 {
+        at(self.0, 0)
+    }
 
-// The left and the right term of question k, counted from 1.
-pub fn left_of(store: &[u32], k: u32) -> u32 {
-    word_at(store, HEADING + 2 * (k as usize) - 2)
-}
+    pub fn questions(self) -> u32 {
+        at(self.0, 1)
+    }
 
-pub fn right_of(store: &[u32], k: u32) -> u32 {
-    word_at(store, HEADING + 2 * (k as usize) - 1)
+    pub fn used(self) -> u32 {
+        at(self.0, USED_PLACE)
+    }
+
+    // The order that the list is in by the store's own words.
+    pub fn order(self) -> u32 {
+        at(self.0, ORDER_PLACE)
+    }
+
+    // The words of the list, if it has all of them.
+    pub fn list(self) -> &'a [u32] {
+        let end = HEADING + 2 * self.questions() as usize;
+        self.0.get(HEADING..end).unwrap_or(&[])
+    }
+
+    // Question k, counted from 1.
+    pub fn question(self, k: u32) -> Equation {
+        let place = HEADING + 2 * k as usize - 2;
+        Equation {
+            left: at(self.0, place),
+            right: at(self.0, place + 1),
+        }
+    }
 }

@@ -18,30 +18,35 @@ pub const MOST_QUESTIONS: u32 = 20;
 
 pub const MOST_ENTRIES: u32 = 4096;
 
-pub fn institute_limits() -> Limits {
-    Limits {
+impl Limits {
+    pub const INSTITUTE: Limits = Limits {
         fields: MOST_FIELDS,
         steps: MOST_STEPS,
         questions: MOST_QUESTIONS,
         entries: MOST_ENTRIES,
-    }
-}
+    };
 
-// The logger takes as many steps as the institute.
-pub fn logger_limits() -> Limits {
-    Limits {
+    // The logger takes as many steps as the institute.
+    pub const LOGGER: Limits = Limits {
         fields: 6,
         steps: MOST_STEPS,
         questions: 8,
         entries: 200,
-    }
+    };
 }
 
-// The logger's limits, or the institute's.
-pub fn limits_of(logger: bool) -> Limits {
-    if logger {
-        logger_limits()
-    } else {
-        institute_limits()
+// Where a call is made.
+#[derive(Clone, Copy, Debug, PartialEq, Eq)]
+pub enum Side {
+    Institute,
+    Logger,
+}
+
+impl Side {
+    pub fn limits(self) -> Limits {
+        match self {
+            Side::Institute => Limits::INSTITUTE,
+            Side::Logger => Limits::LOGGER,
+        }
     }
 }

@@ -1,41 +1,30 @@
 // Meanings at all sheets of the grid.
-use crate::calls::{Row, call_truth};
-use crate::grid::{sheet_of, sheets_of};
-use crate::layout::fields;
-use crate::truth::handle_truth;
+use crate::calls::Call;
+use crate::layout::Store;
 
-// The meaning of a handle at a sheet.
-fn truth_at(store: &[u32], handle: u32, number: u32) -> bool {
-    handle_truth(store, handle, &sheet_of(fields(store), number))
-}
-
-// The number of the first sheet at which a handle has a truth, or the number of all sheets.
-pub fn first_sheet(store: &[u32], handle: u32, truth: bool) -> u32 {
-    let sheets = sheets_of(fields(store));
-    for number in 0..sheets {
-        if truth_at(store, handle, number) == truth {
-            return number;
-        }
+impl Store<'_> {
+    // The meaning of a handle at a sheet of the grid.
+    fn truth_at(self, handle: u32, number: u32) -> bool {
+        self.truth(handle, &self.sheet(number))
     }
-    sheets
-}
 
-// Whether two handles are alike in truth at all sheets.
-pub fn alike(store: &[u32], a: u32, b: u32) -> bool {
-    for number in 0..sheets_of(fields(store)) {
-        if truth_at(store, a, number) != truth_at(store, b, number) {
-            return false;
-        }
+    // The number of the first sheet at which a handle has a truth.
+    pub fn first_sheet(self, handle: u32, truth: bool) -> Option<u32> {
+        (0..self.sheets()).find(|number| self.truth_at(handle, *number) == truth)
     }
-    true
-}
 
-// At how many sheets a handle differs from the meaning of a call.
-pub fn differences(store: &[u32], call: Row, table: &[u32], handle: u32) -> u32 {
-    let mut count = 0;
-    for number in 0..sheets_of(fields(store)) {
-        let differ = truth_at(store, handle, number) != call_truth(store, call, table, number);
-        count = count % 10000 + differ as u32 % 2;
+    // Whether two handles are alike in truth at all sheets.
+    pub fn are_alike(self, a: u32, b: u32) -> bool {
+        (0..self.sheets()).all(|number| self.truth_at(a, number) == self.truth_at(b, number))
     }
-    count
+
+    // At how many sheets a handle differs from the meaning of a call.
+    pub fn differences(self, call: Call<'_>, handle: u32) -> usize {
+        (0..self.sheets())
+            .filter(|number| {
+                let sheet = self.sheet(*number);
+                self.truth(handle, &sheet) != call.truth(self, &sheet)
+            })
+            .count()
+    }
 }

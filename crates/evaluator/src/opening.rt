@@ -1,55 +1,101 @@
 // What opening must answer, and the words that it must leave.
-use crate::answer::refuse;
-use crate::layout::{HEADING, ORDER_PLACE};
-use crate::limits::{Limits, MOST_QUESTIONS};
-use crate::lists::{bad_order, questions_fault};
-use crate::words::{copy, word_at};
+use crate::equations::Equation;
+use crate::layout::{HEADING, Store};
+use crate::limits::Limits;
+use crate::orders::Order;
+use crate::refusals::Refusal;
+use crate::words::copy;
 
-// The refusal of opening a store of so many words.
-fn open_fault(limits: Limits, n: u32, order: u32, list: &[u32], length: usize) -> u32 {
-    let mut fault = refuse(0, n > limits.fields, 11);
-    fault = refuse(fault, bad_order(order), 18);
-    fault = refuse(fault, list.len() % 2 == 1, 12);
-    fault = refuse(fault, list.len() / 2 > limits.questions as usize, 13);
-    fault = refuse(fault, true, questions_fault(limits, n, order, list));
-    refuse(fault, length < HEADING + list.len(), 21)
+// What a store is opened with: its number of fields, its order, and the words of its list.
+#[derive(Clone, Copy)]
+pub struct Opening<'a> {
+    pub n: u32,
+    pub order: u32,
+    pub list: &'a [u32],
 }
 
-// The words of the longest list, and of a heading with it.
-const MOST_LISTED: usize = 2 * MOST_QUESTIONS as usize;
-
-const MOST_OPENED: usize = HEADING + MOST_LISTED;
-
-// The heading of a store that has just been opened, and its list.
-fn opened(n: u32, order: u32, list: &[u32]) -> [u32; MOST_OPENED] {
-    let mut words = [0u32; MOST_OPENED];
-    words[0] = n;
-    words[1] = (list.len() / 2 % 32) as u32;
-    words[ORDER_PLACE] = order;
-    for i in 0..MOST_LISTED {
-        words[HEADING + i] = word_at(list, i);
+// A question by itself.
+fn check_question(limits: Limits, n: u32, question: Equation) -> Result<(), Refusal> {
+    if question.is_beyond(limits, n) {
+        return Err(Refusal::ListedTerm);
     }
-    words
+    if !question.is_question() {
+        return Err(Refusal::NoQuestion);
+    }
+    Ok(())
 }
 
-pub fn write_opened(n: u32, order: u32, list: &[u32], store: &mut [u32]) {
-    copy(&opened(n, order, list), store);
+impl<'a> Opening<'a> {
+    // What opening tests first, with a list of questions and with a raw one. Gives the order.
+    pub fn check_form(self, limits: Limits) -> Result<Order, Refusal> {
+        if self.n > limits.fields {
+            return Err(Refusal::TooManyFields);
+        }
+        let order = Order::try_from(self.order)?;
+        if self.list.len() % 2 == 1 {
+            return Err(Refusal::HalfQuestion);
+        }
+        Ok(order)
+    }
+
+    // The questions of the list, each of which stands after the one before it.
+    fn check_questions(self, limits: Limits, order: Order) -> Result<(), Refusal> {
+        let mut before = 0;
+        for pair in self.list.as_chunks::<2>().0 {
+            let question = Equation::from(*pair);
+            check_question(limits, self.n, question)?;
+            let place = order.place(question);
+            if place <= before {
+                return Err(Refusal::OutOfOrder);
+            }
+            before = place;
+        }
+        Ok(())
+    }
+
+    // Opening a store of so many words.
+    pub fn check(self, limits: Limits, length: usize) -> Result<(), Refusal> {
+        let order = self.check_form(limits)?;
+        if self.list.len() / 2 > limits.questions as usize {
+            return Err(Refusal::TooManyQuestions);
+        }
+        self.check_questions(limits, order)?;
+        if length < HEADING + self.list.len() {
+            return Err(Refusal::StoreTooShort);
+        }
+        Ok(())
+    }
+
+    // The heading of a store that has just been opened, its list, and zeros.
+    pub fn write(self, store: &mut [u32]) {
+        let questions = u32::try_from(self.list.len() / 2).unwrap_or(u32::MAX);
+        copy(&[self.n, questions, 0, self.order], store);
+        if let Some(room) = store.get_mut(HEADING..) {
+            copy(self.list, room);
+        }
+    }
 }
 
-// The number of opening a store within limits; its words afterwards go into a slice that is long enough.
+impl<'a> Store<'a> {
+    // What a store was opened with, by its own words.
+    pub fn opening(self) -> Opening<'a> {
+        Opening {
+            n: self.fields(),
+            order: self.order(),
+            list: self.list(),
+        }
+    }
+}
+
+// Opening a store within limits; its words afterwards go into a slice that is long enough.
 pub fn expect_opened(
     limits: Limits,
-    n: u32,
-    order: u32,
-    list: &[u32],
+    opening: Opening<'_>,
     store: &[u32],
     words: &mut [u32],
-) -> u32 {
-    let fault = open_fault(limits, n, order, list, store.len());
-    if fault == 0 {
-        write_opened(n, order, list, words);
-    } else {
-        copy(store, words);
-    }
-    fault
+) -> Result<(), Refusal> {
+    copy(store, words);
+    opening.check(limits, store.len())?;
+    opening.write(words);
+    Ok(())
 }

@@ -1,84 +1,126 @@
-// Which refusal a rule table asks for.
-use crate::answer::refuse;
-use crate::layout::{cell, field, fields, left_of, questions, right_of, steps};
+// Rule tables: their rows, and which refusal a table asks for.
+use crate::equations::{Equation, field, steps};
+use crate::layout::Store;
 use crate::limits::Limits;
-use crate::lists::bad_term;
+use crate::refusals::Refusal;
+
+// The rows that a table may have.
+pub const MOST_ROWS: usize = 256;
+
+// A row of a rule table. What it combines are rows before it.
+#[derive(Clone, Copy)]
+pub enum Row {
+    Never,
+    Always,
+    Asks(Equation),
+    Not(u32),
+    And(u32, u32),
+    IfThenElse(u32, u32, u32),
+}
+
+// A row by its words: a kind, and columns, of which those that the kind doesn't use are 0.
+impl TryFrom<[u32; 4]> for Row {
+    type Error = Refusal;
+
+    fn try_from(words: [u32; 4]) -> Result<Row, Refusal> {
+        match words {
+            [0, 0, 0, 0] => Ok(Row::Never),
+            [1, 0, 0, 0] => Ok(Row::Always),
+            [2, left, right, 0] => Ok(Row::Asks(Equation::from([left, right]))),
+            [3, a, 0, 0] => Ok(Row::Not(a)),
+            [4, a, b, 0] => Ok(Row::And(a, b)),
+            [5, a, b, c] => Ok(Row::IfThenElse(a, b, c)),
+            _ => Err(Refusal::BadRow),
+        }
+    }
+}
+
+impl Row {
+    pub fn words(self) -> [u32; 4] {
+        match self {
+            Row::Never => [0, 0, 0, 0],
+            Row::Always => [1, 0, 0, 0],
+            Row::Asks(equation) => [2, equation.left, equation.right, 0],
+            Row::Not(a) => [3, a, 0, 0],
+            Row::And(a, b) => [4, a, b, 0],
+            Row::IfThenElse(a, b, c) => [5, a, b, c],
+        }
+    }
+
+    // Whether a row refers only to rows below a number.
+    fn refers_below(self, r: usize) -> bool {
+        let below = |row: u32| (row as usize) < r;
+        match self {
+            Row::Never | Row::Always | Row::Asks(_) => true,
+            Row::Not(a) => below(a),
+            Row::And(a, b) => below(a) && below(b),
+            Row::IfThenElse(a, b, c) => below(a) && below(b) && below(c),
+        }
+    }
+}
 
 // Whether an equation is a question's, perhaps with the same steps more on both sides. One side of a question has no steps.
-fn is_raised(a: u32, b: u32, left: u32, right: u32) -> bool {
-    (field(a) == field(left))
-        & (field(b) == field(right))
-        & (a / 32 + right / 32 == b / 32 + left / 32)
+fn is_raised(equation: Equation, question: Equation) -> bool {
+    field(equation.left) == field(question.left)
+        && field(equation.right) == field(question.right)
+        && steps(equation.left) + steps(question.right)
+            == steps(equation.right) + steps(question.left)
 }
 
-// Whether question k is the equation's, either way round.
-fn asks(store: &[u32], k: u32, a: u32, b: u32) -> bool {
-    let left = left_of(store, k);
-    let right = right_of(store, k);
-    is_raised(a, b, left, right) | is_raised(b, a, left, right)
-}
-
-fn on_list(store: &[u32], a: u32, b: u32) -> bool {
-    let mut listed = false;
-    for i in 0..questions(store) {
-        listed = listed | asks(store, i + 1, a, b);
-    }
-    listed
+// Whether the equation is a question's of the list, either way round.
+fn is_listed(store: Store<'_>, equation: Equation) -> bool {
+    store.list().as_chunks::<2>().0.iter().any(|pair| {
+        let question = Equation::from(*pair);
+        is_raised(equation, question) || is_raised(equation.turned_round(), question)
+    })
 }
 
 // Whether zero is to have more steps than a count has: never, since no count is below zero.
-fn below_zero(a: u32, b: u32) -> bool {
-    (field(b) == 0) & (steps(a) > steps(b))
+fn is_below_zero(equation: Equation) -> bool {
+    field(equation.right) == 0 && steps(equation.left) > steps(equation.right)
 }
 
 // Whether an equation is always or never.
-fn is_settled(a: u32, b: u32) -> bool {
-    (field(a) == field(b)) | below_zero(a, b) | below_zero(b, a)
+fn is_settled(equation: Equation) -> bool {
+    field(equation.left) == field(equation.right)
+        || is_below_zero(equation)
+        || is_below_zero(equation.turned_round())
 }
 
-fn equation_fault(limits: Limits, store: &[u32], a: u32, b: u32) -> u32 {
-    let n = fields(store);
-    let fault = refuse(0, bad_term(limits, n, a) | bad_term(limits, n, b), 35);
-    refuse(fault, !(is_settled(a, b) | on_list(store, a, b)), 36)
+fn check_equation(limits: Limits, store: Store<'_>, equation: Equation) -> Result<(), Refusal> {
+    if equation.is_beyond(limits, store.fields()) {
+        return Err(Refusal::RuleTerm);
+    }
+    if is_settled(equation) || is_listed(store, equation) {
+        return Ok(());
+    }
+    Err(Refusal::NotListed)
 }
 
-// A column that a kind uses refers to a lower row; one that it doesn't use is 0.
-fn bad_row(r: u32, kind: u32, a: u32, b: u32, c: u32) -> bool {
-    match kind {
-        0 | 1 => (a != 0) | (b != 0) | (c != 0),
-        2 => c != 0,
-        3 => (a >= r) | (b != 0) | (c != 0),
-        4 => (a >= r) | (b >= r) | (c != 0),
-        5 => (a >= r) | (b >= r) | (c >= r),
-        _ => true,
+fn check_row(limits: Limits, store: Store<'_>, r: usize, words: [u32; 4]) -> Result<(), Refusal> {
+    let row = Row::try_from(words)?;
+    if !row.refers_below(r) {
+        return Err(Refusal::BadRow);
+    }
+    match row {
+        Row::Asks(equation) => check_equation(limits, store, equation),
+        _ => Ok(()),
     }
 }
 
-fn row_fault(limits: Limits, store: &[u32], table: &[u32], r: u32) -> u32 {
-    let kind = cell(table, r, 0);
-    let a = cell(table, r, 1);
-    let b = cell(table, r, 2);
-    let fault = refuse(0, bad_row(r, kind, a, b, cell(table, r, 3)), 34);
-    refuse(fault, kind == 2, equation_fault(limits, store, a, b))
-}
-
-// The first refusal among the rows.
-fn rows_fault(limits: Limits, store: &[u32], table: &[u32], rows: u32) -> u32 {
-    let mut fault = 0;
-    for r in 0..rows {
-        fault = refuse(fault, true, row_fault(limits, store, table, r));
+pub fn check_table(limits: Limits, store: Store<'_>, table: &[u32]) -> Result<(), Refusal> {
+    let (rows, rest) = table.as_chunks::<4>();
+    if table.is_empty() {
+        return Err(Refusal::EmptyTable);
     }
-    fault
-}
-
-pub fn table_fault(limits: Limits, store: &[u32], table: &[u32]) -> u32 {
-    let length = table.len();
-    let mut fault = refuse(0, length == 0, 31);
-    fault = refuse(fault, length % 4 != 0, 32);
-    fault = refuse(fault, length > 1024, 33);
-    refuse(
-        fault,
-        true,
-        rows_fault(limits, store, table, (length / 4 % 257) as u32),
-    )
+    if !rest.is_empty() {
+        return Err(Refusal::HalfRow);
+    }
+    if rows.len() > MOST_ROWS {
+        return Err(Refusal::TooManyRows);
+    }
+    for (r, words) in rows.iter().enumerate() {
+        check_row(limits, store, r, *words)?;
+    }
+    Ok(())
 }

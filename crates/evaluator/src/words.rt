@@ -1,74 +1,110 @@
-// Words at places that may not be there, and parts of slices that may be shorter.
+// Words and other values at places that may not be there.
+ghost use Rattle.std.specs.Prelude.{◌≡◌, ◌+◌, ◌<◌, ◌≤◌, length};
 
-// The word at a place, 0 beyond the end.
-pub fn word_at(s: &[u32], place: usize) -> u32 {
-    if place < s.len() {
-        return s[place];
-    }
-    0
+// The value at a place, zero or false beyond the end.
+pub fn at<T: Copy + Default>(s: &[T], place: usize) -> T {
+    s.get(place).copied().unwrap_or_default()
 }
 
-pub fn put(s: &mut [u32], place: usize, word: u32) {
-    if place < s.len() {
-        s[place] = word;
+// Writes a value at a place, if it is there.
+pub fn put<T: Drop>(s: &mut [T], place: usize, value: T) {
+    if let Some(old) = s.get_mut(place) {
+        *old = value;
     }
 }
 
-// The words from a place up to another, all of them if they are not so many.
-pub fn part(s: &[u32], from: usize, to: usize) -> &[u32] {
-    if to <= s.len() {
-        if from <= to {
-            return &s[from..to];
-        }
-    }
-    s
-}
-
-// The first counts of a sheet, all of them if they are not so many.
-pub fn first_counts(s: &[u16], count: usize) -> &[u16] {
-    if count < s.len() {
-        return &s[0..count];
-    }
-    s
+// The first values, all of them if they are not so many.
+pub fn first<T>(s: &[T], count: usize) -> &[T]
+    ensures { length result.now ≤ length s.now }
+{
+    s.get(..count).unwrap_or(s)
 }
 
 // Writes the words of one slice over another, from its beginning, zeros where it has none.
 pub fn copy(from: &[u32], to: &mut [u32]) {
-    for i in 0..to.len() {
-        put(to, i, word_at(from, i));
+    for (i, word) in to.iter_mut().enumerate() {
+        *word = at(from, i);
     }
 }
 
-// Whether a slice's words are the first ones of another.
-pub fn same_words(s: &[u32], t: &[u32]) -> bool {
-    let mut same = true;
-    for i in 0..s.len() {
-        same = same & (s[i] == word_at(t, i));
-    }
-    same
+// Up to N words, and room behind them.
+#[derive(Clone, Copy)]
+pub struct Words<const N: usize> {
+    array: [u32; N],
+    length: usize,
+    ghost within: { length ≤ N },
 }
 
-// The count at a place, 0 beyond the end.
-pub fn count_at(sheet: &[u16], place: usize) -> u16 {
-    if place < sheet.len() {
-        return sheet[place];
+impl<const N: usize> Words<N> {
+    // No words, and room full of zeros.
+    pub fn new() -> Words<N> {
+        Words::filled(0, 0)
     }
-    0
-}
 
-// Whether a sheet's counts are the first ones of another.
-pub fn same_counts(s: &[u16], t: &[u16]) -> bool {
-    let mut same = true;
-    for i in 0..s.len() {
-        same = same & (s[i] == count_at(t, i));
+    // So many words that are all alike, as far as there is room, and room full of the same.
+    pub fn filled(word: u32, count: usize) -> Words<N>
+        ensures { (count ≤ N) → result.length ≡ count }
+    {
+        Words {
+            array: [word; N],
+            length: count.min(N),
+        }
     }
-    same
-}
 
-pub fn all_are(s: &[u32], word: u32) -> bool {
-    let mut all = true;
-    for i in 0..s.len() {
-        all = all & (s[i] == word);
+    pub fn len(&self) -> usize
+        ensures { result ≡ self.now.length }
+    {
+        self.length
     }
-    all
+
+    pub fn as_slice(&self) -> &[u32]
+        ensures { length result.now ≡ self.now.length }
+    {
+        &self.array[..self.length]
+    }
+
+    pub fn as_mut_slice(&mut self) -> &mut [u32]
+        ensures { length result.now ≡ self.old.length }
+    {
+        let length = self.length;
+        let array = &mut self.array;
+        &mut array[..length]
+    }
+
+    // The words and the room behind them.
+    pub fn room(&self) -> &[u32]
+        ensures { length result.now ≡ N }
+    {
+        &self.array[..]
+    }
+
+    pub fn room_mut(&mut self) -> &mut [u32]
+        ensures { length result.now ≡ N }
+    {
+        let array = &mut self.array;
+        &mut array[..]
+    }
+
+    // So many words, as far as there is room: new ones are what stands there.
+    pub fn set_len(&mut self, count: usize)
+        ensures { (count ≤ N) → self.new.length ≡ count }
+    {
+        self.length = count.min(N);
+    }
+
+    // One word more, if there is room.
+    pub fn push(&mut self, word: u32)
+        ensures { (self.old.length < N) → self.new.length ≡ self.old.length + 1 }
+    {
+        if self.length < N {
+            self.array[self.length] = word;
+            self.length += 1;
+        }
+    }
+
+    pub fn extend_from_slice(&mut self, words: &[u32]) {
+        for word in words {
+            self.push(*word);
+        }
+    }
 }

@@ -1,19 +1,18 @@
 -- The index over entries that keep the laws of `Indexed`, with a law for each way through the code: the first entry that is equal is the only one, and it
 -- lies in its bucket's chain.
-use Prim.Native.Nat.{ℕ, ◌+◌, ◌-◌, ◌*◌, ◌≤◌, ◌<◌}
+use Prim.Native.Nat.{ℕ, ◌+◌, ◌-◌, ◌≤◌, ◌<◌}
 use mathlib.Core.Path.{◌≡◌, refl, ◌∙◌, ap, sym, subst}
 use mathlib.Core.Bool.{Bool, true, false, false≢true, not}
 use mathlib.Core.List.{List}
 use native.Mathlib.Omega.{arith}
-use borrow.Author.Tests.{lt-ltb, le-ltb, ltb-true, ltb-false}
-use lib.Dec.{ltb}
-use lib.ListN.{get_or, set, length, replicate}
+use borrow.Author.Tests.{lt-ltb, le-ltb}
+use lib.ListN.{get_or, replicate}
 use Rattle.std.proofs.Common.{Option, Some, None, cond}
 use Rattle.std.specs.Option.{is_some}
 use Rattle.index.specs.declared.chains.Index.{Index}
-use Rattle.index.specs.Entries.{capacity, buckets, Bucket, none_equal, EntryLaws}
-use Rattle.index.specs.Needs.{EntriesFit, Holds, Empty, HasRoom, Searchable, Loaded, found}
-use Rattle.index.proofs.ChainLaws.{chains_none, chains_put, Walk, walk_start, walk_step}
+use Rattle.index.specs.Entries.{capacity, buckets, none_equal, EntryLaws}
+use Rattle.index.specs.Needs.{EntriesFit, Holds, Empty, HasRoom, Searchable, found}
+use Rattle.index.proofs.ChainLaws.{chains_none, Walk, walk_step}
 use Rattle.store.specs.Entries.{first}
 use Rattle.store.specs.Needs.{EntryFrom}
 use Rattle.store.specs.Sound.{all_below}
@@ -31,16 +30,6 @@ empty = record { count = 0; lasts = replicate buckets 0; links = replicate capac
 
 pub empty_index : Empty empty
 empty_index = record { none = refl; holds = λ f. record { chains = chains_none f buckets capacity } }
-
-abbrev with_entry : Index → ℕ → Index
-with_entry x b = record { count = x.count + 1; lasts = set x.lasts b (x.count + 1); links = set x.links x.count (get_or x.lasts b 0) }
-
-pub holds_put : {x : Index} {due b : ℕ} → HasRoom x → Bucket due b → (f : ℕ → ℕ) → f x.count ≡ due → Holds f x → Holds f (with_entry x b)
-holds_put {x} {due} {b} r h f e k =
-    let few = r.few in
-    let low = h.low in
-    let d : b ≡ f x.count = h.is ∙ sym e in
-    record { chains = rw d (chains_put f buckets capacity x.count x.lasts x.links k.chains (omega arith) (rw d at low)) }
 
 -- ---- what a search of the first k entries answers
 module _ {A : Type 0} (entry : ℕ → A) (same : A → A → Bool) (e : A) (k : ℕ) where
@@ -91,23 +80,9 @@ module _ {A : Type 0} {fits : List ℕ → ℕ → ℕ → Type 0} {entry : List
         (λ b. absurd (false≢true (rw (laws.same_says (entry s i) e a, b) at u)))
         (λ b. refl)
 
-    pub left_all : {b p : ℕ} → Bucket (bucket e) b → p ≡ get_or x.lasts b 0 → Left (entry s) bucket same x.count e p
-    left_all h d =
-        rw (d, h.is)
-        (walk_start (λ i. bucket (entry s i)) (λ i. same (entry s i) e) (bucket e) x.count in_bucket (r.index.chains.last (bucket e) (rw h.is at h.low)))
-
     module _ {p : ℕ} (l : Left (entry s) bucket same x.count e p) (h : 0 < p) where
       pub left_fits : fits s start (p - 1 + 1)
       left_fits = laws.less s start (p - 1 + 1) x.count (omega (arith, l.low)) r.fit
-
-      pub left_low : p - 1 < capacity
-      left_low = omega (arith, l.low, laws.few s start x.count r.fit)
-
-      pub left_falls : {p' : ℕ} → p' ≡ get_or x.links (p - 1) 0 → p' < p
-      left_falls d =
-          let low = l.low in
-          let below = (r.index.chains.next (p - 1) (omega arith)).low in
-          omega arith
 
       module _ {d : A} {t : Bool} (ed : d ≡ entry s (p - 1)) (et : t ≡ eq d e) where
         tested : t ≡ same (entry s (p - 1)) e
@@ -177,14 +152,3 @@ module _ {A : Type 0} {fits : List ℕ → ℕ → ℕ → Type 0} {entry : List
         sym (laws.differ_is s entries
         ∙ all_below_fails (λ n. all_below n (λ j. not (same (entry s j) (entry s n)))) entries i h
         (all_below_fails (λ j. not (same (entry s j) (entry s i))) i some.0 (omega (arith, some.1, l.counted)) (ap not (of_entry some.2))))
-
-  module _ {i : ℕ} {x : Index} (l : Loading (fits s start) (entry s) bucket same i x) (e : i ≡ entries) where
-    pub all_differ : true ≡ differ s entries
-    all_differ = sym (laws.differ_is s entries ∙ subst (λ k. none_equal same (entry s) k ≡ true) (l.counted ∙ e) l.ready.differ)
-
-    pub all_loaded : Loaded true (fits s start) (entry s) bucket same entries x
-    all_loaded = record { all = λ _. l.counted ∙ e; ready = λ _. l.ready }
-
-pub none_loaded : {A : Type 0} {fits : ℕ → Type 0} {entry : ℕ → A} {bucket : A → ℕ} {same : A → A → Bool} {k : ℕ} {x : Index}
-    → Loaded false fits entry bucket same k x
-none_loaded = record { all = λ t. absurd (false≢true t); ready = λ t. absurd (false≢true t) }

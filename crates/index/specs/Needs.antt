@@ -1,6 +1,6 @@
 -- What the code relies on, and no claim. The index: for each bucket the last entry in it, and for each entry the one before it in its
 -- bucket. A link is one more than an entry's number, and 0 where there is none.
-use Rattle.std.specs.Prelude.{ℕ, zero, suc, ◌+◌, ◌*◌, ◌/◌, ◌%◌, ◌≤◌, ◌<◌, ◌≡◌, Bool, true, cond, ltb, Option, Some, None, List, length, get_or, replicate}
+use Rattle.std.specs.Prelude.{ℕ, ◌+◌, ◌*◌, ◌/◌, ◌%◌, ◌≤◌, ◌<◌, ◌≡◌, Bool, true, cond, ltb, Option, Some, None, List, length, get_or}
 use Rattle.index.specs.declared.chains.Index.{Index}
 use Rattle.index.specs.Entries.{capacity, buckets, none_equal}
 use Rattle.store.specs.declared.entries.Entry.{Entry}

@@ -1,5 +1,5 @@
 -- The entries of a store keep the laws of `Indexed`.
-use Rattle.std.specs.Prelude.{◌≡◌, ℕ, Bool, true, false, ◌&&◌, eqb, List, ◌≤◌, ◌+◌, ◌*◌, refl}
+use Rattle.std.specs.Prelude.{◌≡◌, ℕ, Bool, true, false, ◌&&◌, eqb, List, refl}
 use Rattle.store.specs.declared.entries.Entry.{Entry}
 use Rattle.store.specs.contracts.entries.EntryPartialEq.TheImpl as derived
 use Rattle.store.specs.Layout.{entry}

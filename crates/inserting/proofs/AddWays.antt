@@ -12,7 +12,8 @@ use Rattle.std.proofs.Common.{Option, Some, None}
 use Rattle.facts.specs.declared.record.Facts.{Facts}
 use Rattle.facts.specs.Record.{state}
 use Rattle.facts.specs.State.{start}
-use Rattle.index.specs.Needs.{EntriesFit, Loaded}
+use Rattle.index.specs.declared.chains.Index.{Index}
+use Rattle.index.specs.Needs.{EntriesFit, hash_of, Loaded}
 use Rattle.inserting.specs.Given.{Taken}
 use Rattle.inserting.specs.Needs.{whole_walk, restored, CanWalkAll, CanAdd}
 use Rattle.inserting.specs.SubjectMeaning.{subject_meaning}
@@ -20,9 +21,9 @@ use Rattle.operations.specs.declared.answer.BuildFault.TheVariants.{NoRoom}
 use Rattle.std.specs.Prelude.{Ok}
 use Rattle.operations.specs.Operations.{refused, unless_full, added, add_meaning}
 use Rattle.store.specs.Grown.{Agree}
-use Rattle.store.specs.Layout.{heading_length, question_count, used_place, used, with_used, entries_start, cleared_from}
+use Rattle.store.specs.Layout.{heading_length, question_count, used_place, used, with_used, entries_start, entry}
 use Rattle.store.specs.Outcome.{Outcome, outcome}
-use Rattle.store.specs.Sound.{differ_below}
+use Rattle.store.specs.Sound.{same_entry, differ_below}
 use Rattle.store.specs.SoundParts.{Sound}
 use Rattle.terms.specs.declared.limits.Limits.{Limits}
 use Rattle.walking.specs.declared.subject.Subject.{Subject}
@@ -37,13 +38,6 @@ use Rattle.walking.proofs.SoundWalkable.{sound_walkable, can_begin}
 use Rattle.walking.proofs.WalkKeeps.{GoesOn, walk_goes}
 
 -- ---- putting the words back
-module _ (t : List ℕ) (u : ℕ) {from w : ℕ} (ef : from ≡ entries_start t) (ew : w ≡ u) {t₁ : List ℕ} (e₁ : t₁ ≡ with_used t u) where
-  pub clear_in : entries_start t + 3 * u ≤ length t → from + 3 * w ≤ length t₁
-  clear_in h = rw (e₁, length-set t used_place u) (omega arith)
-
-  pub restores : {t₂ : List ℕ} → t₂ ≡ cleared_from t₁ (from + 3 * w) → t₂ ≡ restored t u
-  restores e₂ = e₂ ∙ rw (e₁, ef, ew)
-
 -- the words of a restored store, from what stands before and after the first entries
 module _ (s t : List ℕ) (same : length t ≡ length s) (agree : Agree s t (used s)) (fits : entries_start s + 3 * used s ≤ length s)
     (zeros : (k : ℕ) → entries_start s + 3 * used s ≤ k → get_or s k 0 ≡ 0) where
@@ -93,7 +87,7 @@ module _ (s t : List ℕ) (same : length t ≡ length s) (agree : Agree s t (use
   ])
 
 -- ---- the walk over all questions
-module _ {limits : Limits} {s source : List ℕ} {subject : Subject} (can : CanWalkAll limits s source subject) where
+module _ {limits : Limits} {s : List ℕ} {subject : Subject} (can : CanWalkAll limits s subject) where
   snd : Sound limits s
   snd = sound_says limits s can.is_sound
 
@@ -104,21 +98,21 @@ module _ {limits : Limits} {s source : List ℕ} {subject : Subject} (can : CanW
     pub can_load : EntriesFit s from w
     can_load = record { begin = ef; within = omega (arith, used_fits snd); few = omega (arith, used_few snd, can.fit.entries_fit) }
 
-    pub in_index : {r : Bool} {lasts links : List ℕ} → Loaded r s from w lasts links → InIndex s lasts links
-    in_index x =
+    pub in_index : {r : Bool} {x : Index} → r ≡ differ_below s w → Loaded r (EntriesFit s from) (entry s) hash_of same_entry w x → InIndex s x
+    in_index {r} er x =
         let n : w ≡ used s = ew ∙ eu in
-        let differ : differ_below s w ≡ true = ap (differ_below s) n ∙ differ_from s (used s) snd.entries_differ in
-        rw (← ef, ← n) (x.ready (x.is ∙ differ))
+        let t : r ≡ true = er ∙ ap (differ_below s) n ∙ differ_from s (used s) snd.entries_differ in
+        record { all = x.all t ∙ n; ready = rw (← ef) (x.ready t) }
 
-  pub can_walk : {q : ℕ} (f : Facts) → q ≡ question_count s → state f ≡ start → CanWalk limits s source subject f 1 q
-  can_walk f eq e = rw eq (can_begin s source subject can.fit can.is_sound can.named e)
+  pub can_walk : {q : ℕ} (f : Facts) → q ≡ question_count s → state f ≡ start → CanWalk limits s subject f 1 q
+  can_walk f eq e = rw eq (can_begin s subject can.fit can.is_sound can.named e)
 
   pub from_start : {q : ℕ} (f : Facts) → q ≡ question_count s → state f ≡ start → {o : Outcome (Option ℕ)}
-      → o ≡ walk limits s source subject q 1 (state f) → o ≡ whole_walk limits s source subject
-  from_start f eq ef e = e ∙ (λ i. walk limits s source subject (eq i) 1 (ef i))
+      → o ≡ walk limits s subject q 1 (state f) → o ≡ whole_walk limits s subject
+  from_start f eq ef e = e ∙ (λ i. walk limits s subject (eq i) 1 (ef i))
 
 -- ---- adding what it finds
-module _ {limits : Limits} {s source : List ℕ} {subject : Subject} (can : CanAdd limits s source subject) where
+module _ {limits : Limits} {s : List ℕ} {subject : Subject} (can : CanAdd limits s subject) where
   store_sound : Sound limits s
   store_sound = sound_says limits s can.is_sound
 
@@ -126,34 +120,34 @@ module _ {limits : Limits} {s source : List ℕ} {subject : Subject} (can : CanA
   heading_in = omega (arith, store_sound.list_in)
 
   -- a table that build takes can be walked over
-  named_by : (x : Subject) → Taken limits s source x → Named s source x
-  named_by Table taken =
-      good_table limits s source (omega (arith, store_sound.fields_in, can.fit.fields_fit)) (omega (arith, can.fit.counts_fit)) taken
+  named_by : (x : Subject) → Taken limits s x → Named s x
+  named_by (Table rows) taken =
+      good_table limits s rows.now (omega (arith, store_sound.fields_in, can.fit.fields_fit)) (omega (arith, can.fit.counts_fit)) taken
   named_by (Choice a b c) taken = taken
 
-  pub can_walk_all : CanWalkAll limits s source subject
+  pub can_walk_all : CanWalkAll limits s subject
   can_walk_all = record { fit = can.fit; is_sound = can.is_sound; named = named_by subject can.given.taken }
 
-  goes : GoesOn s (whole_walk limits s source subject)
-  goes = walk_goes limits can.fit source subject (question_count s) 1 start s (sound_walkable limits s can.fit can.is_sound) (omega arith) (omega arith)
+  goes : GoesOn s (whole_walk limits s subject)
+  goes = walk_goes limits can.fit subject (question_count s) 1 start s (sound_walkable limits s can.fit can.is_sound) (omega arith) (omega arith)
 
-  module _ {r : Option ℕ} {t : List ℕ} (e : outcome r t ≡ whole_walk limits s source subject) where
+  module _ {r : Option ℕ} {t : List ℕ} (e : outcome r t ≡ whole_walk limits s subject) where
     left : GoesOn s (outcome r t)
     left = subst (GoesOn s) (sym e) goes
 
     -- the walk adds the finished diagram
-    adds : unless_full s (outcome r t) ≡ add_meaning limits s (subject_meaning s source subject)
+    adds : unless_full s (outcome r t) ≡ add_meaning limits s (subject_meaning s subject)
     unfolding added
     adds = ap (unless_full s) (e ∙ walk_inserts store_sound can.given)
 
-    pub added_at : (h : ℕ) → r ≡ Some h → outcome (Ok h) t ≡ add_meaning limits s (subject_meaning s source subject)
+    pub added_at : (h : ℕ) → r ≡ Some h → outcome (Ok h) t ≡ add_meaning limits s (subject_meaning s subject)
     added_at h er = ap (λ a. unless_full s (outcome a t)) (sym er) ∙ adds
 
     module _ {u : ℕ} (eu : u ≡ used s) (same : length t ≡ length s) where
       pub can_restore : entries_start t + 3 * u ≤ length t
       can_restore = omega (arith, questions_agree left.agrees, used_fits store_sound)
 
-      pub full_restored : r ≡ None → {w : List ℕ} → w ≡ restored t u → refused w NoRoom ≡ add_meaning limits s (subject_meaning s source subject)
+      pub full_restored : r ≡ None → {w : List ℕ} → w ≡ restored t u → refused w NoRoom ≡ add_meaning limits s (subject_meaning s subject)
       full_restored er ew =
           ap (λ x. refused x NoRoom) (ew ∙ ap (restored t) eu ∙ restored_same s t same left.agrees (used_fits store_sound) store_sound.unused_zero)
           ∙ ap (λ a. unless_full s (outcome a t)) (sym er) ∙ adds

@@ -22,21 +22,21 @@ use Rattle.store.proofs.StoreWords.{question_agrees, tree_agrees}
 use Rattle.inserting.proofs.ValueKnown.{Known, SettledTo, known_table, known_choice}
 use Rattle.inserting.proofs.ValueRight.{IsRight, right_table, right_choice}
 
-module _ {limits : Limits} {s : List ℕ} (snd : Sound limits s) (source : List ℕ) where
-  pub value_right : (subject : Subject) → Taken limits s source subject → (xs : List Fact) → free (state_of xs) ≡ true → (v : Valuation) → Fits xs v
-      → IsRight (subject_value s source subject (state_of xs)) (subject_meaning s source subject v)
-  value_right Table g xs t v h = right_table xs t v h source
-  value_right (Choice a b c) g xs t v h = right_choice xs t v h snd source a b c g.0 g.1 g.2
+module _ {limits : Limits} {s : List ℕ} (snd : Sound limits s) where
+  pub value_right : (subject : Subject) → Taken limits s subject → (xs : List Fact) → free (state_of xs) ≡ true → (v : Valuation) → Fits xs v
+      → IsRight (subject_value s subject (state_of xs)) (subject_meaning s subject v)
+  value_right (Table rows) g xs t v h = right_table xs t v h rows.now
+  value_right (Choice a b c) g xs t v h = right_choice xs t v h snd a b c g.0 g.1 g.2
 
-  pub value_known : (subject : Subject) → Taken limits s source subject → (xs : List Fact) → free (state_of xs) ≡ true → SettledTo s (question_count s + 1) xs
-      → Known (subject_value s source subject (state_of xs))
-  value_known Table g xs t all = known_table xs t all limits source g
-  value_known (Choice a b c) g xs t all = known_choice xs t all snd source a b c g.0 g.1 g.2
+  pub value_known : (subject : Subject) → Taken limits s subject → (xs : List Fact) → free (state_of xs) ≡ true → SettledTo s (question_count s + 1) xs
+      → Known (subject_value s subject (state_of xs))
+  value_known (Table rows) g xs t all = known_table xs t all limits rows.now g
+  value_known (Choice a b c) g xs t all = known_choice xs t all snd a b c g.0 g.1 g.2
 
   -- entries that were added change no value
-  pub value_later : {s' : List ℕ} → Grown limits s s' → (subject : Subject) → Taken limits s source subject → (st : State)
-      → subject_value s' source subject st ≡ subject_value s source subject st
-  value_later l Table g st = refl
+  pub value_later : {s' : List ℕ} → Grown limits s s' → (subject : Subject) → Taken limits s subject → (st : State)
+      → subject_value s' subject st ≡ subject_value s subject st
+  value_later l (Table rows) g st = refl
   value_later {s'} l (Choice a b c) g st =
       let ask : question s' ≡ question s = λ i k. question_agrees l.agree k i in
       let old : (h : ℕ) → h < used s + leaves → handle_value s' h st ≡ handle_value s h st =

@@ -85,9 +85,9 @@ module _ {s : List ℕ} (xs : List Fact) (t : free (state_of xs) ≡ true) (all 
   known_handle : {limits : Limits} → Sound limits s → (h : ℕ) → h < used s + leaves → Known (handle_value s h (state_of xs))
   known_handle snd h l = known_tree 1 (tree s h) (omega arith) (tree_ascending snd h l)
 
-  pub known_choice : {limits : Limits} → Sound limits s → (source : List ℕ) (a b c : ℕ) → a < used s + leaves → b < used s + leaves → c < used s + leaves
-      → Known (subject_value s source (Choice a b c) (state_of xs))
-  known_choice snd source a b c ha hb hc =
+  pub known_choice : {limits : Limits} → Sound limits s → (a b c : ℕ) → a < used s + leaves → b < used s + leaves → c < used s + leaves
+      → Known (subject_value s (Choice a b c) (state_of xs))
+  known_choice snd a b c ha hb hc =
       known_choose (handle_value s a (state_of xs)) (handle_value s b (state_of xs)) (handle_value s c (state_of xs))
       (known_handle snd a ha) (known_handle snd b hb) (known_handle snd c hc)
 

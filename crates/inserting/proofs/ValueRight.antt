@@ -138,8 +138,8 @@ module _ (xs : List Fact) (t : free (state_of xs) ≡ true) (v : Valuation) (h :
     right_handle : (a : ℕ) → a < used s + leaves → IsRight (handle_value s a (state_of xs)) (meaning s a v)
     right_handle a l = right_by (handle_value s a (state_of xs)) (meaning_is_tree snd a l v) (right_tree (question s) (tree s a))
 
-    pub right_choice : (source : List ℕ) (a b c : ℕ) → a < used s + leaves → b < used s + leaves → c < used s + leaves
-        → IsRight (subject_value s source (Choice a b c) (state_of xs)) (subject_meaning s source (Choice a b c) v)
-    right_choice source a b c ha hb hc =
+    pub right_choice : (a b c : ℕ) → a < used s + leaves → b < used s + leaves → c < used s + leaves
+        → IsRight (subject_value s (Choice a b c) (state_of xs)) (subject_meaning s (Choice a b c) v)
+    right_choice a b c ha hb hc =
         right_choose (handle_value s a (state_of xs)) (handle_value s b (state_of xs)) (handle_value s c (state_of xs))
         (meaning s a v) (meaning s b v) (meaning s c v) (right_handle a ha) (right_handle b hb) (right_handle c hc)

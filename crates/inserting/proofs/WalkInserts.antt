@@ -64,33 +64,33 @@ record Going (s : List ℕ) (left k : ℕ) (xs : List Fact) : Type 0 where
   to_last : k + left ≡ question_count s + 1
   before : SettledTo s k xs
 
-module _ {limits : Limits} {s source : List ℕ} {subject : Subject} (snd : Sound limits s) (given : Given limits s source subject) where
+module _ {limits : Limits} {s : List ℕ} {subject : Subject} (snd : Sound limits s) (given : Given limits s subject) where
   -- the walk adds what is finished from the question with the number k on
   abbrev Adds : ℕ → ℕ → List Fact → List ℕ → Type 0
   Adds left k xs s' =
-      walk limits s' source subject left k (state_of xs) ≡ insert limits s' (finish (questions_from s left k) k (state_of xs) (subject_meaning s source subject))
+      walk limits s' subject left k (state_of xs) ≡ insert limits s' (finish (questions_from s left k) k (state_of xs) (subject_meaning s subject))
 
   -- the value on the store as it is now
-  now : {s' : List ℕ} → Grown limits s s' → (xs : List Fact) (d : Decision) → subject_value s source subject (state_of xs) ≡ d
-      → subject_value s' source subject (state_of xs) ≡ d
-  now l xs d e = value_later snd source l subject given.taken (state_of xs) ∙ e
+  now : {s' : List ℕ} → Grown limits s s' → (xs : List Fact) (d : Decision) → subject_value s subject (state_of xs) ≡ d
+      → subject_value s' subject (state_of xs) ≡ d
+  now l xs d e = value_later snd l subject given.taken (state_of xs) ∙ e
 
-  right : (xs : List Fact) → free (state_of xs) ≡ true → (d : Decision) → subject_value s source subject (state_of xs) ≡ d → (v : Valuation) → Fits xs v
-      → IsRight d (subject_meaning s source subject v)
-  right xs t d e v h = subst (λ d. IsRight d (subject_meaning s source subject v)) e (value_right snd source subject given.taken xs t v h)
+  right : (xs : List Fact) → free (state_of xs) ≡ true → (d : Decision) → subject_value s subject (state_of xs) ≡ d → (v : Valuation) → Fits xs v
+      → IsRight d (subject_meaning s subject v)
+  right xs t d e v h = subst (λ d. IsRight d (subject_meaning s subject v)) e (value_right snd subject given.taken xs t v h)
 
   module _ (left k : ℕ) (xs : List Fact) (t : free (state_of xs) ≡ true) (s' : List ℕ) (l : Grown limits s s') where
-    at_always : subject_value s source subject (state_of xs) ≡ Always → Adds left k xs s'
-    at_always e = walk_always limits s' source subject left k (state_of xs) (now l xs Always e)
-        ∙ sym (leaf_inserted limits (questions_from s left k) k xs (subject_meaning s source subject) true t (right xs t Always e) s')
+    at_always : subject_value s subject (state_of xs) ≡ Always → Adds left k xs s'
+    at_always e = walk_always limits s' subject left k (state_of xs) (now l xs Always e)
+        ∙ sym (leaf_inserted limits (questions_from s left k) k xs (subject_meaning s subject) true t (right xs t Always e) s')
 
-    at_never : subject_value s source subject (state_of xs) ≡ Never → Adds left k xs s'
-    at_never e = walk_never limits s' source subject left k (state_of xs) (now l xs Never e)
-        ∙ sym (leaf_inserted limits (questions_from s left k) k xs (subject_meaning s source subject) false t (right xs t Never e) s')
+    at_never : subject_value s subject (state_of xs) ≡ Never → Adds left k xs s'
+    at_never e = walk_never limits s' subject left k (state_of xs) (now l xs Never e)
+        ∙ sym (leaf_inserted limits (questions_from s left k) k xs (subject_meaning s subject) false t (right xs t Never e) s')
 
   -- the next question, where the walk is right from the one after it
   module _ (left k : ℕ) (later : (xs : List Fact) → Going s left (k + 1) xs → (s' : List ℕ) → Grown limits s s' → Adds left (k + 1) xs s')
-      (xs : List Fact) (g : Going s (suc left) k xs) (s' : List ℕ) (l : Grown limits s s') (e : subject_value s source subject (state_of xs) ≡ Open) where
+      (xs : List Fact) (g : Going s (suc left) k xs) (s' : List ℕ) (l : Grown limits s s') (e : subject_value s subject (state_of xs) ≡ Open) where
     here : (d : Decision) → decide (state_of xs) (question s k) ≡ d → decide (state_of xs) (question s' k) ≡ d
     here d f = ap (decide (state_of xs)) (question_agrees l.agree k) ∙ f
 
@@ -103,15 +103,15 @@ module _ {limits : Limits} {s source : List ℕ} {subject : Subject} (snd : Soun
           to_last = omega (arith, g.to_last);
           before = settled_next s k xs xs (λ v h. h) g.before (settled_by xs q d (forces xs q g.some_fit d f) known);
         } in
-        walk_skips limits s' source subject left k (state_of xs) (now l xs Open e) d (here d f) known
+        walk_skips limits s' subject left k (state_of xs) (now l xs Open e) d (here d f) known
         ∙ later xs going s' l
-        ∙ ap (insert limits s') (sym (finish_skips q (questions_from s left (k + 1)) k (state_of xs) (subject_meaning s source subject) d f known))
+        ∙ ap (insert limits s') (sym (finish_skips q (questions_from s left (k + 1)) k (state_of xs) (subject_meaning s subject) d f known))
 
-    part_after : (st : State) → PartAfter s' k (finish (questions_from s left (k + 1)) (k + 1) st (subject_meaning s source subject))
+    part_after : (st : State) → PartAfter s' k (finish (questions_from s left (k + 1)) (k + 1) st (subject_meaning s subject))
     part_after st = record {
-      ascending = finish_ascending (questions_from s left (k + 1)) (k + 1) (question_count s') st (subject_meaning s source subject)
+      ascending = finish_ascending (questions_from s left (k + 1)) (k + 1) (question_count s') st (subject_meaning s subject)
           (omega (arith, questions_length s left (k + 1), g.to_last, questions_agree l.agree));
-      reduced = finish_reduced (questions_from s left (k + 1)) (k + 1) st (subject_meaning s source subject);
+      reduced = finish_reduced (questions_from s left (k + 1)) (k + 1) st (subject_meaning s subject);
     }
 
     asked : decide (state_of xs) (question s k) ≡ Open → Adds (suc left) k xs s'
@@ -119,11 +119,11 @@ module _ {limits : Limits} {s source : List ℕ} {subject : Subject} (snd : Soun
     asked f =
         let q = question s k in
         let st = state_of xs in
-        let means = subject_meaning s source subject in
+        let means = subject_meaning s subject in
         let qs = questions_from s left (k + 1) in
         let y = finish qs (k + 1) (yes_to st q) means in
         let n = finish qs (k + 1) (no_to st q) means in
-        let walks : List ℕ → State → Outcome (Option ℕ) = λ w. walk limits w source subject left (k + 1) in
+        let walks : List ℕ → State → Outcome (Option ℕ) = λ w. walk limits w subject left (k + 1) in
         let no_walked : Equation → ℕ → List ℕ → Outcome (Option ℕ) = λ p h s₁. then_place (walks s₁ (no_to st p)) (λ hn s₂. place_parts limits s₂ (entry_of k h hn)) in
         let no_placed : ℕ → List ℕ → Outcome (Option ℕ) = λ h s₁. then_place (insert limits s₁ n) (λ hn s₂. place_parts limits s₂ (entry_of k h hn)) in
         let going_yes : Going s left (k + 1) (fact q true ∷ xs) = record {
@@ -140,7 +140,7 @@ module _ {limits : Limits} {s source : List ℕ} {subject : Subject} (snd : Soun
         let fn = part_after (no_to st q) in
         let puts = insert_puts y l.sound (k + 1) (question_count s') fy.ascending fy.reduced (omega arith) (omega arith) in
         let s₁ = (insert limits s' y).words in
-        walk_asks limits s' source subject left k st (now l xs Open e) (here Open f)
+        walk_asks limits s' subject left k st (now l xs Open e) (here Open f)
         ∙ ap (λ p. then_place (walks s' (yes_to st p)) (no_walked p)) (question_agrees l.agree k)
         ∙ ap (λ o. then_place o (no_walked q)) (later (fact q true ∷ xs) going_yes s' l)
         ∙ then_same (insert limits s' y) (no_walked q) no_placed
@@ -153,17 +153,17 @@ module _ {limits : Limits} {s source : List ℕ} {subject : Subject} (snd : Soun
     at_question Never f = skipped Never f tt
     at_question Open f = asked f
 
-  at_end : (k : ℕ) (xs : List Fact) → Going s zero k xs → subject_value s source subject (state_of xs) ≡ Open → ⊥
+  at_end : (k : ℕ) (xs : List Fact) → Going s zero k xs → subject_value s subject (state_of xs) ≡ Open → ⊥
   at_end k xs g e =
       let all : SettledTo s (question_count s + 1) xs = subst (λ j. SettledTo s j xs) (omega (arith, g.to_last)) g.before in
-      subst Known e (value_known snd source subject given.taken xs g.some_fit all)
+      subst Known e (value_known snd subject given.taken xs g.some_fit all)
 
   -- by the value of the subject
   by_value : (left k : ℕ) (xs : List Fact) → Going s left k xs → (s' : List ℕ) → Grown limits s s'
-      → (subject_value s source subject (state_of xs) ≡ Open → Adds left k xs s') → Adds left k xs s'
-  by_value left k xs g s' l unknown = go (subject_value s source subject (state_of xs)) refl
+      → (subject_value s subject (state_of xs) ≡ Open → Adds left k xs s') → Adds left k xs s'
+  by_value left k xs g s' l unknown = go (subject_value s subject (state_of xs)) refl
     where
-      go : (d : Decision) → subject_value s source subject (state_of xs) ≡ d → Adds left k xs s'
+      go : (d : Decision) → subject_value s subject (state_of xs) ≡ d → Adds left k xs s'
       go Always e = at_always left k xs g.some_fit s' l e
       go Never e = at_never left k xs g.some_fit s' l e
       go Open e = unknown e
@@ -174,8 +174,8 @@ module _ {limits : Limits} {s source : List ℕ} {subject : Subject} (snd : Soun
       (λ e. at_question left k (walk_from left (k + 1)) xs g s' l e (decide (state_of xs) (question s k)) refl)
 
 -- "start with no facts": the walk over all questions adds the finished diagram of what its subject means
-pub walk_inserts : {limits : Limits} {s source : List ℕ} {subject : Subject} → Sound limits s → Given limits s source subject
-    → walk limits s source subject (question_count s) 1 start ≡ insert limits s (finished_in s (subject_meaning s source subject))
-walk_inserts {limits} {s} {source} {subject} snd given =
+pub walk_inserts : {limits : Limits} {s : List ℕ} {subject : Subject} → Sound limits s → Given limits s subject
+    → walk limits s subject (question_count s) 1 start ≡ insert limits s (finished_in s (subject_meaning s subject))
+walk_inserts {limits} {s} {subject} snd given =
     let none : SettledTo s 1 [] = record { settled = λ j h l. absurd (omega arith) } in
     walk_from snd given (question_count s) 1 [] record { some_fit = refl; to_last = omega arith; before = none } s (grown_same snd)

@@ -23,30 +23,30 @@ use Rattle.diagram.proofs.FinishTruth.{finish_same, finish_constant}
 use Rattle.inserting.proofs.ValueKnown.{Known}
 
 -- ---- the steps of a walk
-module _ (limits : Limits) (s source : List ℕ) (subject : Subject) where
-  pub walk_always : (left k : ℕ) (st : State) → subject_value s source subject st ≡ Always
-      → walk limits s source subject left k st ≡ outcome (Some 1) s
+module _ (limits : Limits) (s : List ℕ) (subject : Subject) where
+  pub walk_always : (left k : ℕ) (st : State) → subject_value s subject st ≡ Always
+      → walk limits s subject left k st ≡ outcome (Some 1) s
   unfolding walk
   walk_always zero k st e = rw (walk, e) refl
   walk_always (suc left) k st e = rw (walk, e) refl
 
-  pub walk_never : (left k : ℕ) (st : State) → subject_value s source subject st ≡ Never
-      → walk limits s source subject left k st ≡ outcome (Some 0) s
+  pub walk_never : (left k : ℕ) (st : State) → subject_value s subject st ≡ Never
+      → walk limits s subject left k st ≡ outcome (Some 0) s
   unfolding walk
   walk_never zero k st e = rw (walk, e) refl
   walk_never (suc left) k st e = rw (walk, e) refl
 
-  pub walk_skips : (left k : ℕ) (st : State) → subject_value s source subject st ≡ Open → (d : Decision) → decide st (question s k) ≡ d → Known d
-      → walk limits s source subject (suc left) k st ≡ walk limits s source subject left (k + 1) st
+  pub walk_skips : (left k : ℕ) (st : State) → subject_value s subject st ≡ Open → (d : Decision) → decide st (question s k) ≡ d → Known d
+      → walk limits s subject (suc left) k st ≡ walk limits s subject left (k + 1) st
   unfolding walk
   walk_skips left k st e Always f known = rw (walk, e, f) refl
   walk_skips left k st e Never f known = rw (walk, e, f) refl
   walk_skips left k st e Open f known = absurd known
 
-  pub walk_asks : (left k : ℕ) (st : State) → subject_value s source subject st ≡ Open → decide st (question s k) ≡ Open
-      → walk limits s source subject (suc left) k st
-      ≡ then_place (walk limits s source subject left (k + 1) (yes_to st (question s k)))
-      (λ y s₁. then_place (walk limits s₁ source subject left (k + 1) (no_to st (question s k))) (λ n s₂. place_parts limits s₂ (entry_of k y n)))
+  pub walk_asks : (left k : ℕ) (st : State) → subject_value s subject st ≡ Open → decide st (question s k) ≡ Open
+      → walk limits s subject (suc left) k st
+      ≡ then_place (walk limits s subject left (k + 1) (yes_to st (question s k)))
+      (λ y s₁. then_place (walk limits s₁ subject left (k + 1) (no_to st (question s k))) (λ n s₂. place_parts limits s₂ (entry_of k y n)))
   unfolding walk
   walk_asks left k st e f = rw (walk, e, f) refl
 

@@ -7,9 +7,9 @@ use Rattle.terms.specs.declared.limits.Limits.{Limits}
 use Rattle.walking.specs.declared.subject.Subject.{Subject}
 use Rattle.walking.specs.declared.subject.Subject.TheVariants.{Table, Choice}
 
-abbrev pub Taken : Limits → List ℕ → List ℕ → Subject → Type 0
-Taken limits s source Table = table_fault limits s source ≡ none
-Taken limits s source (Choice a b c) = (a < used s + leaves) × (b < used s + leaves) × (c < used s + leaves)
+abbrev pub Taken : Limits → List ℕ → Subject → Type 0
+Taken limits s (Table rows) = table_fault limits s rows.now ≡ none
+Taken limits s (Choice a b c) = (a < used s + leaves) × (b < used s + leaves) × (c < used s + leaves)
 
-pub record Given (limits : Limits) (s source : List ℕ) (subject : Subject) : Type 0 where
-  pub taken : Taken limits s source subject
+pub record Given (limits : Limits) (s : List ℕ) (subject : Subject) : Type 0 where
+  pub taken : Taken limits s subject

@@ -10,7 +10,7 @@ use Rattle.walking.specs.declared.subject.Subject.TheVariants.{Table, Choice}
 abbrev pub choice : List ℕ → ℕ → ℕ → ℕ → Valuation → Bool
 choice s a b c v = cond (meaning s a v) (meaning s b v) (meaning s c v)
 
--- the rule of the last row of the source, or if-then-else of three handles of the store
-abbrev pub subject_meaning : List ℕ → List ℕ → Subject → Valuation → Bool
-subject_meaning s source Table = rule_meaning source
-subject_meaning s source (Choice a b c) = choice s a b c
+-- the rule of the last row of a table, or if-then-else of three handles of the store
+abbrev pub subject_meaning : List ℕ → Subject → Valuation → Bool
+subject_meaning s (Table rows) = rule_meaning rows.now
+subject_meaning s (Choice a b c) = choice s a b c

@@ -6,11 +6,10 @@ ghost use Rattle.operations.specs.Operations.{add_meaning};
 ghost use Rattle.store.specs.Layout as layout;
 ghost use Rattle.store.specs.Outcome.{outcome};
 
-use diagram::Placed;
 use facts::no_facts;
-use index::{BUCKETS, CAPACITY, load};
-use operations::{BuildFault, Built};
-use store::{clear_from, entries_start, question_count, set_used, used, wide};
+use index::Index;
+use operations::BuildFault;
+use store::{Entry, clear_from, entries_start, question_count, set_used, used, wide};
 use terms::Limits;
 use walking::{Goal, Subject, walk};
 
@@ -25,46 +24,29 @@ fn restore(store: &mut [u32], entries: u32)
 }
 
 // Walks over all questions with no facts, through an index over the entries.
-fn walk_all(limits: Limits, store: &mut [u32], source: &[u32], subject: Subject) -> Placed
-    requires { spec.CanWalkAll limits store.old source.now subject }
-    ensures { outcome result store.new ≡ spec.whole_walk limits store.old source.now subject }
+fn walk_all(limits: Limits, store: &mut [u32], subject: Subject) -> Option<u32>
+    requires { spec.CanWalkAll limits store.old subject }
+    ensures { outcome result store.new ≡ spec.whole_walk limits store.old subject.entry }
 {
-    let mut lasts = [0u16; BUCKETS];
-    let mut links = [0u16; CAPACITY];
-    load(
-        store,
-        entries_start(store),
-        wide(used(store)),
-        &mut lasts,
-        &mut links,
-    );
+    let mut index = Index::new();
+    index.load::<Entry>(store, entries_start(store), wide(used(store)));
     let goal = Goal { limits, subject };
     let questions = question_count(store);
-    walk(
-        goal,
-        store,
-        &mut lasts,
-        &mut links,
-        source,
-        no_facts(),
-        1,
-        questions,
-    )
+    walk(goal, store, &mut index, no_facts(), 1, questions)
 }
 
 // Adds the finished diagram of what a subject means, or leaves every word as it came where there is no room for it.
-pub fn add(limits: Limits, store: &mut [u32], source: &[u32], subject: Subject) -> Built
-    requires { spec.CanAdd limits store.old source.now subject }
+pub fn add(limits: Limits, store: &mut [u32], subject: Subject) -> Result<u32, BuildFault>
+    requires { spec.CanAdd limits store.old subject }
     ensures { outcome result store.new
-        ≡ add_meaning limits store.old (subject_meaning store.old source.now subject) }
+        ≡ add_meaning limits store.old (subject_meaning store.old subject.entry) }
 {
     let entries = used(store);
-    let placed = walk_all(limits, store, source, subject);
-    match placed {
-        Placed::At(h) => Built::Handle(h),
-        Placed::Full => {
+    match walk_all(limits, store, subject) {
+        Some(h) => Ok(h),
+        None => {
             restore(store, entries);
-            Built::Refused(BuildFault::NoRoom)
+            Err(BuildFault::NoRoom)
         }
     }
 }

@@ -11,8 +11,8 @@ use Rattle.store.specs.Sound.{all_below}
 use Rattle.terms.proofs.Cases.{by_test}
 use Rattle.normal_form.specs.declared.answer.CheckFault.{CheckFault}
 use Rattle.normal_form.specs.declared.answer.CheckFault.TheVariants.{BadShape, BadTerm, HandleNotLower, EqualEntries, NotReachable, RuleApplies}
-use Rattle.normal_form.specs.declared.answer.CheckAnswer.{CheckAnswer}
-use Rattle.normal_form.specs.declared.answer.CheckAnswer.TheVariants.{Refused}
+use Rattle.normal_form.specs.CheckAnswer.{CheckAnswer}
+use Rattle.std.specs.Prelude.{Ok, Err}
 use Rattle.normal_form.specs.Accepted.{Passes81To85, Accepted}
 use Rattle.normal_form.specs.Check.{shape_kept, terms_kept, handles_lower, entries_differ, all_reachable, no_rule_applies, root_verdict, check_diagram, check_entries, check}
 use Rattle.normal_form.specs.Limits.{table_limits}
@@ -23,22 +23,16 @@ use Rattle.normal_form.proofs.PassesKept.{passes_kept}
 use Rattle.normal_form.proofs.NormalTable.{fails_applies, passes_none}
 
 -- a condition that is tested first: the answer is no refusal only if it passes, and then what comes after it answers
-passes_and : (b : Bool) (x : CheckAnswer) (f : CheckFault) → ((g : CheckFault) → cond b x (Refused f) ≢ Refused g) → (b ≡ true) × ((g : CheckFault) → x ≢ Refused g)
+passes_and : (b : Bool) (x : CheckAnswer) (f : CheckFault) → ((g : CheckFault) → cond b x (Err f) ≢ Err g) → (b ≡ true) × ((g : CheckFault) → x ≢ Err g)
 passes_and true x f a = (refl, a)
 passes_and false x f a = absurd (a f refl)
 
--- what is picked of two answers that are no refusals is none
-picks_accepted : (b : Bool) (x y : CheckAnswer) (f : CheckFault) → x ≢ Refused f → y ≢ Refused f → cond b x y ≢ Refused f
-picks_accepted true x y f p q = p
-picks_accepted false x y f p q = q
-
-verdict_accepts : (root : ℕ) (f : CheckFault) → root_verdict root ≢ Refused f
-verdict_accepts root f = picks_accepted (eqb root 0) _ _ f (λ e. let z : ◌≡◌ {A = ℕ} 0 1 = cc in omega arith)
-    (picks_accepted (eqb root 1) _ _ f (λ e. let z : ◌≡◌ {A = ℕ} 0 1 = cc in omega arith) (λ e. let z : ◌≡◌ {A = ℕ} 0 1 = cc in omega arith))
+verdict_accepts : (root : ℕ) (f : CheckFault) → ◌≡◌ {A = CheckAnswer} (Ok (root_verdict root)) (Err f) → ⊥
+verdict_accepts root f e = let z : ◌≡◌ {A = ℕ} 0 1 = cc in omega arith
 
 module _ (t : List ℕ) (root : ℕ) where
   -- what is left of the check after 85
-  pub after_85 : Passes81To85 t root → check table_limits t root ≡ cond (no_rule_applies table_limits t) (root_verdict root) (Refused RuleApplies)
+  pub after_85 : Passes81To85 t root → check table_limits t root ≡ cond (no_rule_applies table_limits t) (Ok (root_verdict root)) (Err RuleApplies)
   unfolding check_diagram check_entries check
   after_85 p = rw (p.passes_81, p.passes_82, p.passes_83, p.passes_84, p.passes_85) refl
 
@@ -51,12 +45,12 @@ module _ (t : List ℕ) (root : ℕ) where
       let a₃ = passes_and (each (λ i. handles_lower (entry t i) i)) _ HandleNotLower a₂.1 in
       let a₄ = passes_and (entries_differ t (entry_count t)) _ EqualEntries a₃.1 in
       let a₅ = passes_and (all_reachable table_limits t root) _ NotReachable a₄.1 in
-      let a₆ = passes_and (no_rule_applies table_limits t) (root_verdict root) RuleApplies a₅.1 in
+      let a₆ = passes_and (no_rule_applies table_limits t) (Ok (root_verdict root)) RuleApplies a₅.1 in
       (record { passes_81 = a₁.0; passes_82 = a₂.0; passes_83 = a₃.0; passes_84 = a₄.0; passes_85 = a₅.0 }, a₆.0)
 
   -- 86 is Definition 28: of a table and a root that pass 81 to 85, it is given exactly if some rule applies in the root's diagram.
-  pub rules_exactly : Passes81To85 t root → (check table_limits t root ≡ Refused RuleApplies) ↔ Applies (tree t root)
-  rules_exactly p = by_test (λ b. no_rule_applies table_limits t ≡ b → (check table_limits t root ≡ Refused RuleApplies) ↔ Applies (tree t root)) (no_rule_applies table_limits t)
+  pub rules_exactly : Passes81To85 t root → (check table_limits t root ≡ Err RuleApplies) ↔ Applies (tree t root)
+  rules_exactly p = by_test (λ b. no_rule_applies table_limits t ≡ b → (check table_limits t root ≡ Err RuleApplies) ↔ Applies (tree t root)) (no_rule_applies table_limits t)
       (λ _ b. (λ e. absurd (verdict_accepts root RuleApplies (sym (rw b at (after_85 p)) ∙ e)), λ r. absurd (passes_none (passes_kept t root p) b r)))
       (λ _ b. (λ _. fails_applies (passes_kept t root p) b, λ _. rw b at (after_85 p))) refl
 

@@ -1,8 +1,7 @@
 -- What the theorems speak of: tables that pass the first five conditions, and tables that are accepted.
-use Rattle.std.specs.Prelude.{ℕ, ◌≡◌, true, ◌≢◌, List}
+use Rattle.std.specs.Prelude.{ℕ, ◌≡◌, true, ◌≢◌, List, Err}
 use Rattle.store.specs.Sound.{all_below}
 use Rattle.normal_form.specs.declared.answer.CheckFault.{CheckFault}
-use Rattle.normal_form.specs.declared.answer.CheckAnswer.TheVariants.{Refused}
 use Rattle.normal_form.specs.Check.{shape_kept, terms_kept, handles_lower, entries_differ, all_reachable, check}
 use Rattle.normal_form.specs.Limits.{table_limits}
 use Rattle.normal_form.specs.Table.{entry_count, entry}
@@ -17,4 +16,4 @@ pub record Passes81To85 (t : List ℕ) (root : ℕ) : Type 0 where
 
 -- the check refuses with no number
 abbrev pub Accepted : List ℕ → ℕ → Type 0
-Accepted t root = (f : CheckFault) → check table_limits t root ≢ Refused f
+Accepted t root = (f : CheckFault) → check table_limits t root ≢ Err f

@@ -1,5 +1,5 @@
 -- The check of a table and a root (document 02, vii): "Accept a table and root exactly if no error below is met." "Each condition is tested over the whole table before the next."
-use Rattle.std.specs.Prelude.{ℕ, ◌+◌, ◌-◌, ◌%◌, Bool, true, false, cond, not, ◌&&◌, List, eqb, leb, ltb, length, get_or}
+use Rattle.std.specs.Prelude.{ℕ, ◌+◌, ◌-◌, ◌%◌, Bool, true, false, cond, not, ◌&&◌, List, eqb, leb, ltb, length, get_or, Ok, Err}
 use Rattle.store.specs.Layout.{leaves}
 use Rattle.store.specs.Sound.{all_below}
 use Rattle.terms.specs.declared.term.Equation.{Equation}
@@ -7,8 +7,9 @@ use Rattle.terms.specs.Form.{is_simplified}
 use Rattle.terms.specs.Order.{fields_first, before}
 use Rattle.terms.specs.Words.{allows}
 use Rattle.normal_form.specs.declared.answer.CheckFault.TheVariants.{BadShape, BadTerm, HandleNotLower, EqualEntries, NotReachable, RuleApplies}
-use Rattle.normal_form.specs.declared.answer.CheckAnswer.{CheckAnswer}
-use Rattle.normal_form.specs.declared.answer.CheckAnswer.TheVariants.{Never, Always, Sometimes, Refused}
+use Rattle.normal_form.specs.CheckAnswer.{CheckAnswer}
+use Rattle.store.specs.declared.verdict.Verdict.{Verdict}
+use Rattle.store.specs.declared.verdict.Verdict.TheVariants.{Never, Always, Sometimes}
 use Rattle.normal_form.specs.declared.entry.Entry.{Entry}
 use Rattle.normal_form.specs.declared.limits.TableLimits.{TableLimits}
 use Rattle.normal_form.specs.Named.{named}
@@ -60,7 +61,7 @@ unfoldable pub no_rule_applies : TableLimits → List ℕ → Bool
 no_rule_applies limits t = all_below (entry_count t) (parts_ordered t) && all_below (entry_count t) (left_apart limits t)
 
 -- "On acceptance the result is the root's verdict." (theorem `check_verdict`)
-abbrev pub root_verdict : ℕ → CheckAnswer
+abbrev pub root_verdict : ℕ → Verdict
 root_verdict root = cond (eqb root 0) Never (cond (eqb root 1) Always Sometimes)
 
 -- 84 to 86: entries whose handles are known to be lower
@@ -68,18 +69,18 @@ unfoldable pub check_diagram : TableLimits → List ℕ → ℕ → CheckAnswer
 check_diagram limits t root =
     cond (entries_differ t (entry_count t))
     (cond (all_reachable limits t root)
-    (cond (no_rule_applies limits t) (root_verdict root) (Refused RuleApplies))
-    (Refused NotReachable))
-    (Refused EqualEntries)
+    (cond (no_rule_applies limits t) (Ok (root_verdict root)) (Err RuleApplies))
+    (Err NotReachable))
+    (Err EqualEntries)
 
 -- 82 and 83, then those
 unfoldable pub check_entries : TableLimits → List ℕ → ℕ → CheckAnswer
 check_entries limits t root =
     let each = all_below (entry_count t) in
     cond (each (λ i. terms_kept limits (entry t i)))
-    (cond (each (λ i. handles_lower (entry t i) i)) (check_diagram limits t root) (Refused HandleNotLower))
-    (Refused BadTerm)
+    (cond (each (λ i. handles_lower (entry t i) i)) (check_diagram limits t root) (Err HandleNotLower))
+    (Err BadTerm)
 
 -- 81, then those
 unfoldable pub check : TableLimits → List ℕ → ℕ → CheckAnswer
-check limits t root = cond (shape_kept limits t root) (check_entries limits t root) (Refused BadShape)
+check limits t root = cond (shape_kept limits t root) (check_entries limits t root) (Err BadShape)

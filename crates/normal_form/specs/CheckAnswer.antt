@@ -1,9 +1,14 @@
 -- The numbers of a check's answer (document 02, vii).
-use Rattle.std.specs.Prelude.{ℕ}
+use Rattle.std.specs.Prelude.{ℕ, Result, Ok, Err}
+use Rattle.store.specs.declared.verdict.Verdict.{Verdict}
+use Rattle.store.specs.VerdictWord.{verdict_word}
+use Rattle.terms.specs.Refusal.{answer_number}
 use Rattle.normal_form.specs.declared.answer.CheckFault.{CheckFault}
 use Rattle.normal_form.specs.declared.answer.CheckFault.TheVariants.{BadShape, BadTerm, HandleNotLower, EqualEntries, NotReachable, RuleApplies}
-use Rattle.normal_form.specs.declared.answer.CheckAnswer.{CheckAnswer}
-use Rattle.normal_form.specs.declared.answer.CheckAnswer.TheVariants.{Never, Always, Sometimes, Refused}
+
+-- what a check answers: the root's verdict, if the table is accepted, or why it is not
+abbrev pub CheckAnswer : Type 0
+CheckAnswer = Result Verdict CheckFault
 
 abbrev pub check_fault_number : CheckFault → ℕ
 check_fault_number BadShape = 81
@@ -14,14 +19,9 @@ check_fault_number NotReachable = 85
 check_fault_number RuleApplies = 86
 
 abbrev pub checked_number : CheckAnswer → ℕ
-checked_number Never = 0
-checked_number Always = 0
-checked_number Sometimes = 0
-checked_number (Refused f) = check_fault_number f
+checked_number = answer_number check_fault_number
 
 -- "On acceptance the result is the root's verdict": 0 never, 1 always, 2 sometimes
 abbrev pub checked_result : CheckAnswer → ℕ
-checked_result Never = 0
-checked_result Always = 1
-checked_result Sometimes = 2
-checked_result (Refused f) = 0
+checked_result (Ok verdict) = verdict_word verdict
+checked_result (Err f) = 0

@@ -6,6 +6,6 @@ mod answer;
 mod entry;
 mod limits;
 
-pub use answer::{CheckAnswer, CheckFault, checked_number, checked_result};
+pub use answer::CheckFault;
 pub use entry::Entry;
 pub use limits::{MOST_TABLE_ENTRIES, TableLimits, limits_of_table};

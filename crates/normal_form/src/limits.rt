@@ -9,7 +9,7 @@ const MOST_TABLE_STEPS: u32 = 4095;
 pub const MOST_TABLE_ENTRIES: u32 = 4096;
 
 // What a table may hold: the limits of its terms, and the largest number of entries.
-#[derive(Clone, Copy)]
+#[derive(Clone, Copy, Debug, PartialEq, Eq)]
 pub struct TableLimits {
     pub terms: TermLimits,
     pub entries: u32,
@@ -19,12 +19,11 @@ pub struct TableLimits {
 pub fn limits_of_table() -> TableLimits
     ensures { result ≡ spec.table_limits }
 {
-    let terms = TermLimits {
-        field: Field(MOST_FIELDS),
-        steps: Steps(MOST_TABLE_STEPS),
-    };
     TableLimits {
-        terms,
+        terms: TermLimits {
+            field: Field(MOST_FIELDS),
+            steps: Steps(MOST_TABLE_STEPS),
+        },
         entries: MOST_TABLE_ENTRIES,
     }
 }

@@ -1,7 +1,7 @@
 -- Build, negate, join and choose: the finished diagram of a meaning is added to the store, or nothing is changed. Each line that refuses stands
 -- once, and goes on where its condition is not met.
 use Rattle.std.specs.Prelude.{ℕ, Bool, cond, not, ◌&&◌, List, Option, Some, None, Ok, Err}
-use Rattle.std.proofs.Math.Option.{Option, none, some}
+use Rattle.std.proofs.Math.Option.{Option as MathOption, none, some}
 use Rattle.diagram.specs.Insert.{insert}
 use Rattle.diagram.specs.Questions.{finished_in}
 use Rattle.operations.specs.declared.answer.BuildFault.{BuildFault}
@@ -31,7 +31,7 @@ abbrev pub if_handles : List ℕ → Bool → Outcome Built → Outcome Built
 if_handles s given next = cond given next (refused s NoHandle)
 
 -- 31 to 36, by the table's fault
-abbrev pub if_taken : List ℕ → Option TableFault → Outcome Built → Outcome Built
+abbrev pub if_taken : List ℕ → MathOption TableFault → Outcome Built → Outcome Built
 if_taken s none next = next
 if_taken s (some f) next = refused s (BadTable f)
 

@@ -2,7 +2,7 @@
 use Rattle.std.specs.Prelude.{ℕ}
 use Rattle.examples.specs.declared.answer.Example.{Example}
 use Rattle.examples.specs.Example.{example_number}
-use Rattle.normal_form.specs.declared.answer.CheckAnswer.{CheckAnswer}
+use Rattle.normal_form.specs.CheckAnswer.{CheckAnswer}
 use Rattle.normal_form.specs.CheckAnswer.{checked_number, checked_result}
 use Rattle.operations.specs.Built.{Built, built_number, built_result}
 use Rattle.raw_lists.specs.RawOpened.{RawOpened, raw_number}

@@ -9,3 +9,4 @@ pub mod Grown
 pub mod Meaning
 pub mod Tree
 pub mod Needs
+pub mod VerdictWord

@@ -1,95 +1,67 @@
 // The calls that leave the store as it is: each is made, and its answer printed and compared with the evaluator's. What simplify and write back
 // leave is compared by the generated calls of `try_rules`.
-use crate::comparing::{remark, same_answer};
-use crate::lines::Numbers;
-use crate::printing::{answer, counts, signed, text, word, words};
-use evaluator::{
-    Answer, expect_example, expect_read, expect_verdict, first_counts, is_example, knows,
-};
+use crate::comparing::{Remark, is_same};
+use crate::printing::{Answered, Listed};
+use evaluator::{Store, expect_example, expect_read, expect_verdict, is_example};
 use sheet::{sheet_example, sheet_read, sheet_simplify, sheet_verdict, sheet_write_back};
 use std::io;
 
 pub fn simplify(rt: &impl Print, left: u32, right: u32) -> io::Result<()> {
     let a = sheet_simplify(left, right);
-    text(rt, b":")?;
-    word(rt, a.number)?;
-    word(rt, a.result)?;
-    word(rt, a.left)?;
-    word(rt, a.right)?;
-    signed(rt, a.gap)
+    print!(rt;
+        ": {} {} {} {} {}",
+        a.number, a.result, a.left, a.right, a.gap
+    )
 }
 
 pub fn verdict(rt: &impl Print, store: &[u32], handle: u32) -> io::Result<()> {
     let found = sheet_verdict(store, handle);
-    let expected = expect_verdict(store, handle);
-    answer(rt, found)?;
-    remark(
-        rt,
-        knows(store, expected.number),
-        same_answer(found, expected),
-    )
+    let expected = expect_verdict(Store(store), handle);
+    let remark = Remark::of(Store(store).knows(expected), is_same(found, expected));
+    print!(rt; "{}{remark}", Answered(found))
 }
 
-fn narrow(count: u32) -> u16 {
-    (count % 65536) as u16
-}
-
-// A sheet is read by the entries alone.
-fn read_sheet(rt: &impl Print, store: &[u32], handle: u32, sheet: &[u16]) -> io::Result<()> {
-    let found = sheet_read(store, handle, sheet);
-    answer(rt, found)?;
-    remark(
-        rt,
-        true,
-        same_answer(found, expect_read(store, handle, sheet)),
-    )
-}
-
-// A handle, and a sheet of at most two counts.
-pub fn read(rt: &impl Print, store: &[u32], numbers: Numbers) -> io::Result<()> {
-    let words = numbers.words;
-    let sheet = [narrow(words[1]), narrow(words[2])];
-    let count = numbers.count;
-    if count > 0 {
-        read_sheet(rt, store, words[0], first_counts(&sheet, count - 1))?;
-    }
-    Ok(())
-}
-
-fn example_in(rt: &impl Print, store: &[u32], handle: u32, sheet: &mut [u16]) -> io::Result<()> {
-    let expected = Answer {
-        number: expect_example(store, handle, sheet.len()),
-        result: 0,
-    };
-    let found = sheet_example(store, handle, sheet);
-    answer(rt, found)?;
-    counts(rt, sheet)?;
-    remark(
-        rt,
-        knows(store, expected.number),
-        same_answer(found, expected) & is_example(store, handle, sheet),
-    )
+// A sheet is read by the entries alone, so the evaluator knows each answer. No count of the script is above 65,535.
+pub fn read(
+    rt: &(impl Print + AllocGlobal),
+    store: &[u32],
+    handle: u32,
+    counts: &[u32],
+) -> io::Result<()> {
+    let sheet: Vec<u16> = counts
+        .iter()
+        .map(|count| u16::try_from(*count).unwrap_or(u16::MAX))
+        .collect(rt.alloc())?;
+    let found = sheet_read(store, handle, sheet.as_slice());
+    let expected = expect_read(Store(store), handle, sheet.as_slice());
+    let remark = Remark::of(true, is_same(found, expected));
+    print!(rt; "{}{remark}", Answered(found))
 }
 
 // Into so many counts that are all 7.
-pub fn example(rt: &impl Print, store: &[u32], handle: u32, length: usize) -> io::Result<()> {
-    let mut sheet = [7u16; 16];
-    if length <= 16 {
-        example_in(rt, store, handle, &mut sheet[0..length])?;
-    }
-    Ok(())
-}
-
-fn write_in(rt: &impl Print, store: &[u32], handle: u32, out: &mut [u32]) -> io::Result<()> {
-    answer(rt, sheet_write_back(store, handle, out))?;
-    words(rt, out)
+pub fn example(
+    rt: &(impl Print + AllocGlobal),
+    store: &[u32],
+    handle: u32,
+    length: usize,
+) -> io::Result<()> {
+    let mut sheet = vec![in rt.alloc(); 7u16; length]?;
+    let expected = expect_example(Store(store), handle, length);
+    let number = expected.map(|_| 0);
+    let found = sheet_example(store, handle, sheet.as_mut_slice());
+    let same = is_same(found, number) && is_example(expected, sheet.as_slice());
+    let remark = Remark::of(Store(store).knows(number), same);
+    print!(rt; "{}{}{remark}", Answered(found), Listed(sheet.as_slice()))
 }
 
 // Into so many words that are all 7.
-pub fn write_back(rt: &impl Print, store: &[u32], handle: u32, length: usize) -> io::Result<()> {
-    let mut out = [7u32; 64];
-    if length <= 64 {
-        write_in(rt, store, handle, &mut out[0..length])?;
-    }
-    Ok(())
+pub fn write_back(
+    rt: &(impl Print + AllocGlobal),
+    store: &[u32],
+    handle: u32,
+    length: usize,
+) -> io::Result<()> {
+    let mut out = vec![in rt.alloc(); 7u32; length]?;
+    let found = sheet_write_back(store, handle, out.as_mut_slice());
+    print!(rt; "{}{}", Answered(found), Listed(out.as_slice()))
 }

@@ -1,181 +1,121 @@
 // The calls that may change the store: each is made, its answer printed with the store afterwards, and both compared with the evaluator's.
-use crate::comparing::{remark, same_answer};
-use crate::lending::Lent;
-use crate::lines::{MOST_NUMBERS, NO_BAR, Numbers};
-use crate::names::Name;
-use crate::printing::{answer, words};
+use crate::arguments::Arguments;
+use crate::comparing::{Remark, is_same};
+use crate::printing::{Answered, Listed};
 use evaluator::{
-    Limits, Row, expect_added, expect_opened, expect_raw_opened, knows, limits_of, part, same_words,
+    Call, Opening, Refusal, Side, Store, expect_added, expect_opened, expect_raw_opened,
 };
 use sheet::{
     Answer, sheet_build, sheet_choose, sheet_join, sheet_logger_build, sheet_logger_open,
     sheet_negate, sheet_open, sheet_open_raw,
 };
+use std::alloc::{AllocError, Global};
 use std::io;
 
-// The kind of row that a call stands for, by the first letter of its name; 0 for opening, and 1 for opening with a raw list.
-fn kind_of(name: Name) -> u32 {
-    let letter = name.letter;
-    match letter {
-        b'b' => 2,
-        b'n' => 3,
-        b'j' => 4,
-        b'c' => 5,
-        _ => name.raw as u32,
+// What a call does to a store. The logger has opening and build alone.
+#[derive(Clone, Copy)]
+enum Change<'a> {
+    Open(Side, Opening<'a>),
+    OpenRaw(Opening<'a>),
+    Add(Call<'a>),
+    LoggerBuild(&'a [u32]),
+}
+
+// A change by the name of the call: opening takes the number of fields, the order and a list, build a table, and the others handles.
+fn change_of<'a>(name: &str, given: &Arguments, words: &'a [u32]) -> Change<'a> {
+    let [a, b, c] = [given.number(0), given.number(1), given.number(2)];
+    let opening = Opening {
+        n: a,
+        order: b,
+        list: words,
+    };
+    match name {
+        "open" => Change::Open(Side::Institute, opening),
+        "logger_open" => Change::Open(Side::Logger, opening),
+        "open_raw" => Change::OpenRaw(opening),
+        "logger_build" => Change::LoggerBuild(words),
+        "negate" => Change::Add(Call::Negate(a)),
+        "join" => Change::Add(Call::Join(a, b)),
+        "choose" => Change::Add(Call::Choose(a, b, c)),
+        _ => Change::Add(Call::Build(words)),
     }
 }
 
-// The handles are the first numbers, and for opening the number of fields and the order.
-fn call_of(name: Name, numbers: Numbers) -> Row {
-    let words = numbers.words;
-    Row {
-        kind: kind_of(name),
-        a: words[0],
-        b: words[1],
-        c: words[2],
+impl Change<'_> {
+    fn perform(self, store: &mut [u32]) -> Answer {
+        match self {
+            Change::Open(Side::Institute, o) => sheet_open(o.n, o.order, o.list, store),
+            Change::Open(Side::Logger, o) => sheet_logger_open(o.n, o.order, o.list, store),
+            Change::OpenRaw(o) => sheet_open_raw(o.n, o.order, o.list, store),
+            Change::Add(Call::Build(table)) => sheet_build(store, table),
+            Change::Add(Call::Negate(a)) => sheet_negate(store, a),
+            Change::Add(Call::Join(a, b)) => sheet_join(store, a, b),
+            Change::Add(Call::Choose(a, b, c)) => sheet_choose(store, a, b, c),
+            Change::LoggerBuild(table) => sheet_logger_build(store, table),
+        }
+    }
+
+    // What the evaluator expects; the store's words afterwards go into a slice that is as long.
+    fn expect(self, store: &[u32], after: &mut [u32]) -> Result<u32, Refusal> {
+        match self {
+            Change::Open(side, opening) => {
+                expect_opened(side.limits(), opening, store, after).map(|_| 0)
+            }
+            Change::OpenRaw(opening) => expect_raw_opened(opening, store, after).map(|_| 0),
+            Change::Add(call) => {
+                expect_added(Side::Institute.limits(), Store(store), call, after)
+            }
+            Change::LoggerBuild(table) => {
+                expect_added(
+                    Side::Logger.limits(),
+                    Store(store),
+                    Call::Build(table),
+                    after,
+                )
+            }
+        }
+    }
+
+    // The answer to opening depends on no word of the store.
+    fn is_known(self, store: &[u32], expected: Result<u32, Refusal>) -> bool {
+        match self {
+            Change::Open(..) | Change::OpenRaw(_) => true,
+            Change::Add(_) | Change::LoggerBuild(_) => Store(store).knows(expected),
+        }
     }
 }
 
-// A list stands after the number of fields and the order; a rule table stands by itself.
-fn list_of(given: &[u32]) -> &[u32] {
-    part(given, 2, given.len())
+fn make(rt: &(impl Print + AllocGlobal), store: &mut [u32], change: Change<'_>) -> io::Result<()> {
+    let mut after = vec![in rt.alloc(); 0; store.len()]?;
+    let expected = change.expect(store, after.as_mut_slice());
+    let known = change.is_known(store, expected);
+    let found = change.perform(store);
+    let same = is_same(found, expected) && after.as_slice() == &*store;
+    let remark = Remark::of(known, same);
+    print!(rt; "{}{}{remark}", Answered(found), Listed(store))
 }
 
-// The institute's calls.
-fn perform(store: &mut [u32], call: Row, given: &[u32]) -> Answer {
-    let kind = call.kind;
-    match kind {
-        0 => sheet_open(call.a, call.b, list_of(given), store),
-        1 => sheet_open_raw(call.a, call.b, list_of(given), store),
-        2 => sheet_build(store, given),
-        3 => sheet_negate(store, call.a),
-        4 => sheet_join(store, call.a, call.b),
-        _ => sheet_choose(store, call.a, call.b, call.c),
+// So many rows always, at most one more than a table may have.
+fn always_rows(alloc: Global, rows: u32) -> Result<Vec<u32>, AllocError> {
+    let mut table = Vec::new(alloc);
+    for _ in 0..rows.min(257) {
+        table.extend_from_slice(&[1, 0, 0, 0])?;
     }
+    Ok(table)
 }
 
-// The logger has opening and build.
-fn perform_logged(store: &mut [u32], call: Row, given: &[u32]) -> Answer {
-    let kind = call.kind;
-    match kind {
-        0 => sheet_logger_open(call.a, call.b, list_of(given), store),
-        _ => sheet_logger_build(store, given),
-    }
-}
-
-fn perform_either(logger: bool, store: &mut [u32], call: Row, given: &[u32]) -> Answer {
-    if logger {
-        perform_logged(store, call, given)
-    } else {
-        perform(store, call, given)
-    }
-}
-
-// The number of an opening: with a raw list by the institute alone.
-fn expect_opening(
-    limits: Limits,
-    store: &[u32],
-    call: Row,
-    list: &[u32],
-    after: &mut [u32],
-) -> u32 {
-    if call.kind == 1 {
-        return expect_raw_opened(call.a, call.b, list, store, after);
-    }
-    expect_opened(limits, call.a, call.b, list, store, after)
-}
-
-fn expect(
-    limits: Limits,
-    store: &[u32],
-    call: Row,
-    given: &[u32],
-    after: &mut [u32],
-) -> evaluator::Answer {
-    if call.kind > 1 {
-        return expect_added(limits, store, call, given, after);
-    }
-    evaluator::Answer {
-        number: expect_opening(limits, store, call, list_of(given), after),
-        result: 0,
-    }
-}
-
-// The answer to opening depends on no word of the store.
-fn make(
-    rt: &impl Print,
-    logger: bool,
+// A call with what stands after the bar, or with so many rows.
+pub fn make_change(
+    rt: &(impl Print + AllocGlobal),
     store: &mut [u32],
-    call: Row,
-    given: &[u32],
+    name: &str,
+    given: &Arguments,
 ) -> io::Result<()> {
-    let mut after = [0u32; MOST_NUMBERS];
-    let expected = expect(limits_of(logger), store, call, given, &mut after);
-    let known = (call.kind < 2) | knows(store, expected.number);
-    let found = perform_either(logger, store, call, given);
-    answer(rt, found)?;
-    words(rt, store)?;
-    remark(
-        rt,
-        known,
-        same_answer(found, expected) & same_words(store, &after),
-    )
-}
-
-// 257 rows of kind 1.
-fn all_always() -> [u32; 1028] {
-    let mut table = [0u32; 1028];
-    for r in 0..257usize {
-        table[4 * r] = 1;
+    match &given.listed {
+        Some(words) => make(rt, store, change_of(name, given, words.as_slice())),
+        None => {
+            let rows = always_rows(rt.alloc(), given.number(0))?;
+            make(rt, store, change_of(name, given, rows.as_slice()))
+        }
     }
-    table
-}
-
-fn make_always(
-    rt: &impl Print,
-    logger: bool,
-    store: &mut [u32],
-    call: Row,
-    rows: u32,
-) -> io::Result<()> {
-    let table = all_always();
-    make(
-        rt,
-        logger,
-        store,
-        call,
-        part(&table, 0, 4 * (rows as usize)),
-    )
-}
-
-// A call with what stands after the bar, or with so many rows of kind 1.
-fn make_given(rt: &impl Print, store: &mut [u32], name: Name, numbers: Numbers) -> io::Result<()> {
-    let given = numbers.words;
-    let call = call_of(name, numbers);
-    if numbers.bar == NO_BAR {
-        make_always(rt, name.logger, store, call, given[0])
-    } else {
-        make(rt, name.logger, store, call, part(&given, 0, numbers.count))
-    }
-}
-
-// On the first words of what is lent.
-fn make_within(
-    rt: &impl Print,
-    store: &mut [u32],
-    length: usize,
-    name: Name,
-    numbers: Numbers,
-) -> io::Result<()> {
-    if length <= store.len() {
-        make_given(rt, &mut store[0..length], name, numbers)?;
-    }
-    Ok(())
-}
-
-pub fn change(rt: &impl Print, mut lent: Lent, name: Name, numbers: Numbers) -> io::Result<Lent> {
-    let mut store = lent.words;
-    make_within(rt, &mut store, lent.length, name, numbers)?;
-    lent.words = store;
-    Ok(lent)
 }

@@ -1,19 +1,36 @@
 // What the evaluator says to an answer, at the end of the answer's line.
-use crate::printing::text;
-use std::io;
+use evaluator::Refusal;
+use std::fmt;
 
-pub fn same_answer(found: sheet::Answer, expected: evaluator::Answer) -> bool {
-    (found.number == expected.number) & (found.result == expected.result)
+pub fn is_same(found: sheet::Answer, expected: Result<u32, Refusal>) -> bool {
+    let expected = evaluator::Answer::from(expected);
+    found.number == expected.number && found.result == expected.result
 }
 
 // Nothing where the evaluator doesn't know the answer.
-pub fn remark(rt: &impl Print, known: bool, same: bool) -> io::Result<()> {
-    if !known {
-        return Ok(());
+#[derive(Clone, Copy)]
+pub enum Remark {
+    Unknown,
+    Agrees,
+    Differs,
+}
+
+impl Remark {
+    pub fn of(known: bool, same: bool) -> Remark {
+        match (known, same) {
+            (false, _) => Remark::Unknown,
+            (true, true) => Remark::Agrees,
+            (true, false) => Remark::Differs,
+        }
     }
-    if same {
-        text(rt, b" agrees")
-    } else {
-        text(rt, b" differs")
+}
+
+impl fmt::Display for Remark {
+    fn fmt<W: fmt::Write>(&self, f: &mut fmt::Formatter<W>) -> fmt::Result {
+        f.write_str(match self {
+            Remark::Unknown => "",
+            Remark::Agrees => " agrees",
+            Remark::Differs => " differs",
+        })
     }
 }

@@ -1,36 +1,31 @@
 // What the calls are lent: the words of a store, and how long a slice for an answer is.
-use crate::lines::{MOST_NUMBERS, NO_BAR, Numbers};
+use crate::arguments::Arguments;
+use std::alloc::{AllocError, Global};
 
-#[derive(Clone, Copy)]
+#[derive(Drop)]
 pub struct Lent {
-    pub words: [u32; MOST_NUMBERS],
-    pub length: usize,
+    pub store: Vec<u32>,
     pub out: usize,
 }
 
-pub fn nothing_lent() -> Lent {
-    Lent {
-        words: [0; MOST_NUMBERS],
-        length: 0,
-        out: 0,
+impl Lent {
+    pub fn nothing(alloc: Global) -> Lent {
+        Lent {
+            store: Vec::new(alloc),
+            out: 0,
+        }
     }
-}
 
-// A store: so many words that are all alike, or the words after the bar.
-pub fn lend_store(mut lent: Lent, numbers: Numbers) -> Lent {
-    let words = numbers.words;
-    if numbers.bar == NO_BAR {
-        lent.words = [words[1]; MOST_NUMBERS];
-        lent.length = words[0] as usize;
-        return lent;
+    // A store: so many words that are all alike, or the words after the bar.
+    pub fn lend_store(&mut self, alloc: Global, given: Arguments) -> Result<(), AllocError> {
+        let length = given.number(0) as usize;
+        let alike = vec![in alloc; given.number(1); length]?;
+        self.store = given.listed.unwrap_or(alike);
+        Ok(())
     }
-    lent.words = words;
-    lent.length = numbers.count;
-    lent
-}
 
-// A slice for an answer, whose words or counts are all 7.
-pub fn lend_out(mut lent: Lent, numbers: Numbers) -> Lent {
-    lent.out = numbers.words[0] as usize;
-    lent
+    // A slice for an answer, whose words or counts are all 7.
+    pub fn lend_out(&mut self, given: &Arguments) {
+        self.out = given.number(0) as usize;
+    }
 }

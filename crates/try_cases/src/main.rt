@@ -2,21 +2,22 @@
 // numbers, and whether the evaluator agrees.
 #![tactic(auto)]
 
+mod arguments;
 mod asking;
 mod calls;
 mod changing;
 mod comparing;
 mod diagrams;
-mod input;
 mod lending;
-mod lines;
-mod names;
 mod printing;
 
+use crate::lending::Lent;
 use std::io;
 
 fn main(rt: HostRuntime) -> io::Result<()> {
-    let mut text = [0u8; 20480];
-    let end = input::read_full(&mut rt.reader(), &mut text)?;
-    calls::run(&rt, &text[..end])
+    let mut lent = Lent::nothing(rt.alloc());
+    for line in rt.lines(rt.alloc()) {
+        calls::run_line(&rt, &mut lent, line?.as_str())?;
+    }
+    Ok(())
 }

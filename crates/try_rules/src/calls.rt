@@ -1,114 +1,67 @@
 // Generated calls of build, negate, join and choose, against the evaluator.
-use crate::chance::{Thrown, throw, throw_from};
+use crate::chance::Chance;
 use crate::comparing::try_on;
-use crate::ledger::enter;
-use crate::rules::{Table, throw_table};
-use crate::run::{Run, count, expect_answer};
-use evaluator::{
-    Row, accepted, call_truth, differences, fields, first_counts, part, row_of, sheet_of,
-    sheets_of, used,
-};
-use sheet::{Answer, sheet_read};
+use crate::rules::throw_table;
+use crate::run::Run;
+use evaluator::{Call, Side, Store, first};
+use sheet::sheet_read;
 
 // Any handle of the store, now and then one that it has not.
-pub fn throw_handle(seed: u64, store: &[u32]) -> Thrown {
-    let handles = used(store) % 4097 + 2;
-    let thrown = throw(seed, 40);
-    let way = thrown.number;
-    match way {
+pub fn throw_handle(chance: &mut Chance, store: Store<'_>) -> u32 {
+    let handles = store.used() % 4097 + 2;
+    match chance.below(40) {
         // one of the next handles that would be there
-        0 => throw_from(thrown.seed, handles, 3),
-        1 => Thrown {
-            number: 4294967295,
-            seed: thrown.seed,
-        },
-        _ => throw(thrown.seed, handles),
+        0 => chance.from_on(handles, 3),
+        1 => u32::MAX,
+        _ => chance.below(handles),
     }
 }
 
-// A call with a table for it, and the seed after both.
-#[derive(Clone, Copy)]
-struct Next {
-    table: Table,
-    call: Row,
-    seed: u64,
-}
-
-fn throw_next(seed: u64, store: &[u32]) -> Next {
-    let table = throw_table(seed, store);
-    let kind = throw(table.seed, 5);
-    let a = throw_handle(kind.seed, store);
-    let b = throw_handle(a.seed, store);
-    let c = throw_handle(b.seed, store);
-    Next {
-        table: table,
-        call: row_of(kind.number + 1, a.number, b.number, c.number),
-        seed: c.seed,
+// A call with a table for it, or with handles.
+fn throw_call<'a>(chance: &mut Chance, store: Store<'_>, table: &'a [u32]) -> Call<'a> {
+    let kind = chance.below(5);
+    let a = throw_handle(chance, store);
+    let b = throw_handle(chance, store);
+    let c = throw_handle(chance, store);
+    match kind {
+        0 | 1 => Call::Build(table),
+        2 => Call::Negate(a),
+        3 => Call::Join(a, b),
+        _ => Call::Choose(a, b, c),
     }
 }
 
 // What read answers for the diagram of an accepted call, at a sheet of the grid.
-fn compare_read(
-    run: Run,
-    store: &[u32],
-    call: Row,
-    table: &[u32],
-    handle: u32,
-    number: u32,
-) -> Run {
-    let sheet = sheet_of(fields(store), number);
-    let found = sheet_read(store, handle, first_counts(&sheet, fields(store) as usize));
-    let truth = call_truth(store, call, table, number);
-    expect_answer(run, found, accepted(truth as u32))
+fn compare_read(run: &mut Run, store: Store<'_>, call: Call<'_>, handle: u32, number: u32) {
+    let sheet = store.sheet(number);
+    let counts = first(&sheet, store.fields() as usize);
+    let found = sheet_read(store.0, handle, counts);
+    let truth = call.truth(store, &sheet);
+    run.expect_answer(found, Ok(u32::from(truth)));
 }
 
-// The same at every sixteenth sheet, from the fourth on.
-fn compare_reads(mut run: Run, store: &[u32], call: Row, table: &[u32], handle: u32) -> Run {
-    let sheets = sheets_of(fields(store)) % 2048;
-    for i in 0..(sheets + 12) / 16 {
-        run = compare_read(run, store, call, table, handle, 16 * i + 3);
+// The diagram of an accepted call against the meaning that it stands for, at all sheets of the grid, and by read at every sixteenth, from the fourth on.
+// Its handle is entered into the ledger.
+fn compare_accepted(run: &mut Run, store: Store<'_>, call: Call<'_>, handle: u32) {
+    run.ledger.push(handle);
+    run.count(store.sheets(), store.differences(call, handle));
+    for number in (0..store.sheets()).filter(|number| number % 16 == 3) {
+        compare_read(run, store, call, handle, number);
     }
-    run
-}
-
-// The diagram of an accepted call against the meaning that it stands for, at all sheets of the grid. Its handle is entered into the ledger.
-fn compare_sheets(mut run: Run, store: &[u32], call: Row, table: &[u32], handle: u32) -> Run {
-    let differ = differences(store, call, table, handle);
-    run = enter(run, handle);
-    run = count(run, sheets_of(fields(store)), differ);
-    compare_reads(run, store, call, table, handle)
-}
-
-fn compare_accepted(run: Run, store: &[u32], call: Row, table: &[u32], found: Answer) -> Run {
-    let number = found.number;
-    match number {
-        0 => compare_sheets(run, store, call, table, found.result),
-        _ => run,
-    }
-}
-
-fn try_call(run: Run, store: &mut [u32], call: Row, table: &[u32]) -> Run {
-    let tried = try_on(run, false, store, call, table);
-    compare_accepted(tried.run, store, call, table, tried.answer)
 }
 
 // One generated call.
-fn try_next(mut run: Run, store: &mut [u32]) -> Run {
-    let next = throw_next(run.seed, store);
-    let table = next.table;
-    let words = table.words;
-    run.seed = next.seed;
-    try_call(
-        run,
-        store,
-        next.call,
-        part(&words, 0, table.length as usize),
-    )
+fn try_next(run: &mut Run, store: &mut [u32]) {
+    let table = throw_table(&mut run.chance, Store(store));
+    let call = throw_call(&mut run.chance, Store(store), table.as_slice());
+    let found = try_on(run, Side::Institute, store, call);
+    if found.number == 0 {
+        compare_accepted(run, Store(store), call, found.result);
+    }
 }
 
-pub fn try_calls(mut run: Run, store: &mut [u32]) -> Run {
-    for i in 0..12u32 {
-        run = try_next(run, store);
+pub fn try_calls(run: &mut Run, store: &mut [u32]) {
+    for _ in 0..12 {
+        try_next(run, store);
     }
-    run
 }

@@ -1,32 +1,47 @@
-// Numbers that look thrown, the same at each run. What is thrown comes with the seed of what is thrown next.
-ghost use Rattle.std.specs.Prelude.{◌≤◌};
+// Numbers that look thrown, the same at each run.
+ghost use Rattle.std.specs.Prelude.{◌≤◌, ◌<◌, ◌+◌, ◌^◌};
 
 #[derive(Clone, Copy)]
-pub struct Thrown {
-    pub number: u32,
-    pub seed: u64,
+pub struct Chance {
+    seed: u64,
 }
 
-// The next number below a bound of at most 32,768; 0 where the bound is 0.
-pub fn throw(seed: u64, bound: u32) -> Thrown
-    ensures { result.number ≤ bound }
-{
-    let next = seed % 2147483648 * 1103515245 + 12345;
-    if bound == 0 {
-        return Thrown {
-            number: 0,
-            seed: next % 2147483648,
-        };
+impl Chance {
+    pub fn new() -> Chance {
+        Chance { seed: 1 }
     }
-    Thrown {
-        number: (next / 65536 % 32768) as u32 % bound,
-        seed: next % 2147483648,
-    }
-}
 
-// One of so many numbers from a least one on, where both are below 65,536.
-pub fn throw_from(seed: u64, least: u32, count: u32) -> Thrown {
-    let mut thrown = throw(seed, count);
-    thrown.number = least % 65536 + thrown.number % 65536;
-    thrown
+    // The next number below a bound of at most 32,768; 0 where the bound is 0.
+    pub fn below(&mut self, bound: u32) -> u32
+        ensures most { result ≤ bound }
+        ensures small { result < 2 ^ 15 }
+    {
+        let next = self.seed % 2147483648 * 1103515245 + 12345;
+        self.seed = next % 2147483648;
+        match bound {
+            0 => 0,
+            _ => (next / 65536 % 32768) as u32 % bound,
+        }
+    }
+
+    // One of so many numbers from a least one on.
+    pub fn from_on(&mut self, least: u32, count: u32) -> u32
+        requires { least < 2 ^ 17 }
+        ensures { result < 2 ^ 18 }
+    {
+        least + self.below(count)
+    }
+
+    // Once in so many times.
+    pub fn once_in(&mut self, times: u32) -> bool {
+        self.below(times) == 0
+    }
+
+    // Three numbers below a bound, one after the other.
+    pub fn three_below(&mut self, bound: u32) -> [u32; 3] {
+        let first = self.below(bound);
+        let second = self.below(bound);
+        let third = self.below(bound);
+        [first, second, third]
+    }
 }

@@ -1,24 +1,28 @@
 // Generated lists of questions, in either order.
 ghost use Rattle.std.specs.Prelude.{◌<◌, ◌^◌};
 
-use crate::chance::{Thrown, throw, throw_from};
-use evaluator::{field, is_question};
+use crate::chance::Chance;
+use evaluator::{Equation, Opening, Words, field};
 
-// A list's number of fields, its order, its words, and how many of them there are: up to eight questions, or too many. And the seed after it.
+// A list's number of fields, its order, and its words, as far as there is room.
 #[derive(Clone, Copy)]
-pub struct List {
+pub struct List<const N: usize> {
     pub n: u32,
     pub order: u32,
-    pub words: [u32; 44],
-    pub length: u32,
-    pub seed: u64,
+    pub words: Words<N>,
 }
 
-// Two terms.
-#[derive(Clone, Copy)]
-struct Pair {
-    left: u32,
-    right: u32,
+// Up to eight questions, or too many.
+pub type ShortList = List<44>;
+
+impl<const N: usize> List<N> {
+    pub fn opening(&self) -> Opening<'_> {
+        Opening {
+            n: self.n,
+            order: self.order,
+            list: self.words.as_slice(),
+        }
+    }
 }
 
 // The steps of up to three strides, as they stand in a term's word.
@@ -34,132 +38,94 @@ fn strides(count: u32, stride: u32) -> u32
     }
 }
 
-// A pair of two fields: steps 0 to 3 are so many strides on the right, and 4 to 6 are one to three on the left.
-fn pair_of(left: u32, right: u32, step: u32, stride: u32) -> Pair
+// An equation of two fields: steps 0 to 3 are so many strides on the right, and 4 to 6 are one to three on the left.
+fn equation_of(left: u32, right: u32, step: u32, stride: u32) -> Equation
     requires { (left < 32) × (right < 32) }
 {
     if step < 4 {
-        Pair {
+        Equation {
             left: left,
             right: right + strides(step, stride),
         }
     } else {
-        Pair {
+        Equation {
             left: left + strides(step - 3, stride),
             right: right,
         }
     }
 }
 
-// The pairs of one left field in the older order: twelve with no steps on the left, then three with one stride there, and so on.
-fn older_pair(left: u32, place: u32, stride: u32) -> Pair
+// The equations of one left field in the older order: twelve with no steps on the left, then three with one stride there, and so on.
+fn older_equation(left: u32, place: u32, stride: u32) -> Equation
     requires { (left < 32) × (place < 32) }
 {
     if place < 12 {
-        pair_of(left, place / 4, place % 4, stride)
+        equation_of(left, place / 4, place % 4, stride)
     } else {
-        pair_of(left, place % 3, place / 3, stride)
+        equation_of(left, place % 3, place / 3, stride)
     }
 }
 
-// The c-th in an order of all pairs of three fields with gaps of up to 3 strides. Some are no questions, as their right field is not smaller, or
+// The c-th in an order of all equations of three fields with gaps of up to 3 strides. Some are no questions, as their right field is not smaller, or
 // they have steps to the left of zero.
-fn pair_at(c: u32, order: u32, stride: u32) -> Pair {
+fn equation_at(c: u32, order: u32, stride: u32) -> Equation {
     let left = c / 21 % 3 + 1;
     let place = c % 21;
     if order == 0 {
-        pair_of(left, place / 7, place % 7, stride)
+        equation_of(left, place / 7, place % 7, stride)
     } else {
-        older_pair(left, place, stride)
+        older_equation(left, place, stride)
     }
 }
 
 // The number of fields: mostly three, the fewest over which a list can be in one order and not in the other.
-fn throw_fields(seed: u64) -> Thrown {
-    let mut thrown = throw(seed, 20);
-    let way = thrown.number;
-    thrown.number = match way {
+fn throw_fields(chance: &mut Chance) -> u32 {
+    match chance.below(20) {
         0 => 0,
         1..=4 => 1,
         5..=7 => 2,
         _ => 3,
-    };
-    thrown
+    }
 }
 
 // The least left field of a list: two times in three the last field, since the orders differ about questions of one left field alone.
-fn throw_least(seed: u64, n: u32) -> Thrown {
-    let mut thrown = throw(seed, 3);
-    if thrown.number > 0 {
-        thrown.number = n;
-    }
-    thrown
+fn throw_least(chance: &mut Chance, n: u32) -> u32 {
+    if chance.once_in(3) { 0 } else { n }
 }
 
 // The steps of a stride: one, or up to 341, so that three strides go up to 1,023.
-fn throw_stride(far: bool, seed: u64) -> Thrown {
+fn throw_stride(chance: &mut Chance, far: bool) -> u32 {
     if !far {
-        return throw_from(seed, 1, 1);
+        return chance.from_on(1, 1);
     }
-    let way = throw(seed, 4);
-    let number = way.number;
-    match number {
-        0 => throw_from(way.seed, 1, 1),
-        1 => throw_from(way.seed, 341, 1),
-        _ => throw_from(way.seed, 1, 341),
+    match chance.below(4) {
+        0 => chance.from_on(1, 1),
+        1 => chance.from_on(341, 1),
+        _ => chance.from_on(1, 341),
     }
 }
 
 // Whether that is a question over n fields from a least left field on. Gaps of 3 are for up to two fields: of two fields n × (K + 1) is then at
 // most nine.
-fn is_candidate(n: u32, least: u32, left: u32, right: u32) -> bool {
-    let wide = (n == 3) & (left / 32 + right / 32 == 3);
-    let within = (least <= field(left)) & (field(left) <= n);
-    is_question(left, right) & within & !wide
-}
-
-// Writes two words from a place on.
-pub fn put_pair(mut list: List, place: usize, left: u32, right: u32) -> List {
-    if place < 43 {
-        list.words[place] = left;
-        list.words[place + 1] = right;
-    }
-    list
-}
-
-// Takes a question once in so many times.
-fn throw_question(mut list: List, times: u32, pair: Pair) -> List {
-    let thrown = throw(list.seed, times);
-    let length = list.length;
-    list.seed = thrown.seed;
-    if thrown.number > 0 {
-        return list;
-    }
-    list.length = length % 16 + 2;
-    put_pair(list, length as usize, pair.left, pair.right)
+fn is_candidate(n: u32, least: u32, equation: Equation) -> bool {
+    let left = field(equation.left);
+    equation.is_question() && least <= left && left <= n && !(n == 3 && equation.gap() == 3)
 }
 
 // A list of up to eight questions, in either order. Its gaps are small, or go far: so they may in any list of one field, which the grid covers, and
 // in others if that is asked for.
-pub fn throw_list(seed: u64, far: bool) -> List {
-    let fields = throw_fields(seed);
-    let n = fields.number;
-    let order = throw(fields.seed, 2);
-    let least = throw_least(order.seed, n);
-    let times = throw(least.seed, 4);
-    let stride = throw_stride(far | (n == 1), times.seed);
-    let mut list = List {
-        n: n,
-        order: order.number,
-        words: [0; 44],
-        length: 0,
-        seed: stride.seed,
-    };
-    for c in 0..63u32 {
-        let pair = pair_at(c, order.number, stride.number);
-        if (list.length < 16) & is_candidate(n, least.number, pair.left, pair.right) {
-            list = throw_question(list, times.number + 1, pair);
+pub fn throw_list(chance: &mut Chance, far: bool) -> ShortList {
+    let n = throw_fields(chance);
+    let order = chance.below(2);
+    let least = throw_least(chance, n);
+    let times = chance.below(4) + 1;
+    let stride = throw_stride(chance, far || n == 1);
+    let mut words = Words::new();
+    for c in 0..63 {
+        let equation = equation_at(c, order, stride);
+        if words.len() < 16 && is_candidate(n, least, equation) && chance.once_in(times) {
+            words.extend_from_slice(&[equation.left, equation.right]);
         }
     }
-    list
+    List { n, order, words }
 }

@@ -2,120 +2,129 @@
 use crate::comparing::{MOST_WORDS, try_on};
 use crate::filling::{Form, filled};
 use crate::hostile::refuse_all;
-use crate::run::{Run, agree, expect_answer};
-use evaluator::{
-    Answer, accepted, institute_limits, is_sound, logger_limits, part, put, refused, row_of,
-};
+use crate::run::Run;
+use evaluator::{Call, Limits, Refusal, Side, Store, USED_PLACE, Words, copy, put};
+
+type Expected = Result<u32, Refusal>;
+
+// A store with so many entries, and room for more.
+fn filled_words(form: Form, entries: u32) -> Words<MOST_WORDS> {
+    let mut words = Words::filled(0, MOST_WORDS);
+    copy(&filled(form, entries), words.as_mut_slice());
+    words
+}
 
 // A build, and what it must answer.
-fn build(run: Run, logger: bool, store: &mut [u32], table: &[u32], expected: Answer) -> Run {
-    let tried = try_on(run, logger, store, row_of(2, 0, 0, 0), table);
-    expect_answer(tried.run, tried.answer, expected)
+fn build(run: &mut Run, side: Side, store: &mut [u32], table: &[u32], expected: Expected) {
+    let found = try_on(run, side, store, Call::Build(table));
+    run.expect_answer(found, expected);
 }
 
 // The rule always, which needs no entry, and a table of no words.
-fn build_none(mut run: Run, logger: bool, store: &mut [u32], always: Answer, empty: Answer) -> Run {
-    run = build(run, logger, store, &[1, 0, 0, 0], always);
-    build(run, logger, store, &[], empty)
+fn build_none(run: &mut Run, side: Side, store: &mut [u32], always: Expected, empty: Expected) {
+    build(run, side, store, &[1, 0, 0, 0], always);
+    build(run, side, store, &[], empty);
 }
 
 // The rule n = 0, question 1, which needs one entry.
-fn build_first(run: Run, logger: bool, store: &mut [u32], n: u32, expected: Answer) -> Run {
-    build(run, logger, store, &[2, n, 0, 0], expected)
+fn build_first(run: &mut Run, side: Side, store: &mut [u32], expected: Expected) {
+    let n = Store(store).fields();
+    build(run, side, store, &[2, n, 0, 0], expected);
 }
 
 // The logger refuses the store, and the institute takes it.
-fn try_beyond(mut run: Run, store: &mut [u32]) -> Run {
-    run = build_none(run, true, store, refused(22), refused(22));
-    build_none(run, false, store, accepted(1), refused(31))
+fn try_beyond(run: &mut Run, store: &mut [u32]) {
+    let no_store = Err(Refusal::NoStore);
+    build_none(run, Side::Logger, store, no_store, no_store);
+    build_none(run, Side::Institute, store, Ok(1), Err(Refusal::EmptyTable));
 }
 
-fn try_form_beyond(mut run: Run, form: Form, entries: u32) -> Run {
-    let mut store = filled(form, entries);
-    run = agree(run, is_sound(institute_limits(), &store));
-    run = agree(run, !is_sound(logger_limits(), &store));
-    try_beyond(run, &mut store[0..MOST_WORDS])
+fn try_form_beyond(run: &mut Run, form: Form, entries: u32) {
+    let mut words = filled_words(form, entries);
+    let store = Store(words.as_slice());
+    run.agree(store.is_sound(Limits::INSTITUTE));
+    run.agree(!store.is_sound(Limits::LOGGER));
+    try_beyond(run, words.as_mut_slice());
 }
 
 // In a store with 199 entries n = 0 takes the last one on the logger, and again none; n = S(0), which needs two, has no room.
-fn fill_last(mut run: Run, n: u32, store: &mut [u32]) -> Run {
-    run = build_first(run, true, store, n, accepted(201));
-    run = build_first(run, true, store, n, accepted(201));
-    build(run, true, store, &[2, n, 32, 0], refused(51))
-}
-
-fn try_last(mut run: Run, form: Form) -> Run {
-    let mut store = filled(form, 199);
-    run = agree(run, is_sound(logger_limits(), &store));
-    fill_last(run, form.n, &mut store[0..MOST_WORDS])
+fn try_last(run: &mut Run, form: Form) {
+    let mut words = filled_words(form, 199);
+    let store = words.as_mut_slice();
+    run.agree(Store(store).is_sound(Limits::LOGGER));
+    build_first(run, Side::Logger, store, Ok(201));
+    build_first(run, Side::Logger, store, Ok(201));
+    build(
+        run,
+        Side::Logger,
+        store,
+        &[2, form.n, 32, 0],
+        Err(Refusal::NoRoom),
+    );
 }
 
 // With 200 entries n = 0 is refused on the logger, and at the institute it is handle 202. The logger then refuses the store.
-fn pass_limit(mut run: Run, n: u32, store: &mut [u32]) -> Run {
-    run = build_first(run, true, store, n, refused(51));
-    run = build_first(run, false, store, n, accepted(202));
-    try_beyond(run, store)
+fn pass_limit(run: &mut Run, store: &mut [u32]) {
+    build_first(run, Side::Logger, store, Err(Refusal::NoRoom));
+    build_first(run, Side::Institute, store, Ok(202));
+    try_beyond(run, store);
 }
 
 // What needs no entry, both take.
-fn stay_within(mut run: Run, n: u32, store: &mut [u32]) -> Run {
-    run = build_none(run, true, store, accepted(1), refused(31));
-    run = build_none(run, false, store, accepted(1), refused(31));
-    pass_limit(run, n, store)
-}
-
-fn try_full(mut run: Run, form: Form) -> Run {
-    let mut store = filled(form, 200);
-    run = agree(run, is_sound(logger_limits(), &store));
-    stay_within(run, form.n, &mut store[0..MOST_WORDS])
+fn try_full(run: &mut Run, form: Form) {
+    let mut words = filled_words(form, 200);
+    let store = words.as_mut_slice();
+    run.agree(Store(store).is_sound(Limits::LOGGER));
+    for side in [Side::Logger, Side::Institute] {
+        build_none(run, side, store, Ok(1), Err(Refusal::EmptyTable));
+    }
+    pass_limit(run, store);
 }
 
 // Numbers of used entries whose end, or the next handle, is small in 32 bits.
 const WRAPPING: [u32; 4] = [1431655762, 1431655766, 4294967294, 4294967295];
 
 // A store of the logger's with such a number is refused by both.
-fn try_wrapping(mut run: Run, form: Form, used: u32) -> Run {
-    let mut store = filled(form, 200);
-    put(&mut store, 2, used);
-    run = agree(run, !is_sound(logger_limits(), &store));
-    refuse_all(run, part(&store, 0, MOST_WORDS))
-}
-
-fn try_all_wrapping(mut run: Run, form: Form) -> Run {
-    for i in 0..4usize {
-        run = try_wrapping(run, form, WRAPPING[i]);
-    }
-    run
-}
-
-fn form_of(n: u32, questions: u32, order: u32) -> Form {
-    Form {
-        n: n,
-        questions: questions,
-        order: order,
+fn try_wrapping(run: &mut Run, form: Form) {
+    for used in WRAPPING {
+        let mut words = filled_words(form, 200);
+        let store = words.as_mut_slice();
+        put(store, USED_PLACE, used);
+        run.agree(!Store(store).is_sound(Limits::LOGGER));
+        refuse_all(run, store);
     }
 }
 
 // The stores of n fields within the limits, and with one entry more.
-fn try_within(mut run: Run, n: u32, order: u32) -> Run {
-    let form = form_of(n, 8, order);
-    run = try_last(run, form);
-    run = try_full(run, form);
-    run = try_form_beyond(run, form, 201);
-    try_all_wrapping(run, form)
+fn try_within(run: &mut Run, n: u32, order: u32) {
+    let form = Form {
+        n: n,
+        questions: 8,
+        order: order,
+    };
+    try_last(run, form);
+    try_full(run, form);
+    try_form_beyond(run, form, 201);
+    try_wrapping(run, form);
 }
 
-fn try_order(mut run: Run, order: u32) -> Run {
-    run = try_within(run, 1, order);
-    run = try_within(run, 6, order);
-    run = try_form_beyond(run, form_of(7, 8, order), 200);
-    try_form_beyond(run, form_of(6, 9, order), 200)
+// With one field more, and with one question more.
+fn try_wider(run: &mut Run, order: u32) {
+    for (n, questions) in [(7, 8), (6, 9)] {
+        let form = Form {
+            n: n,
+            questions: questions,
+            order: order,
+        };
+        try_form_beyond(run, form, 200);
+    }
 }
 
 // In both orders.
-pub fn try_logger_limits(mut run: Run) -> Run {
-    for order in 0..2u32 {
-        run = try_order(run, order);
+pub fn try_logger_limits(run: &mut Run) {
+    for order in 0..2 {
+        try_within(run, 1, order);
+        try_within(run, 6, order);
+        try_wider(run, order);
     }
-    run
 }

@@ -1,5 +1,6 @@
 // Orders: document 01's and the older one, and words that are none.
-use crate::chance::{Thrown, throw};
+use crate::chance::Chance;
+use evaluator::at;
 
 pub fn other_order(order: u32) -> u32 {
     if order == 0 { 1 } else { 0 }
@@ -12,8 +13,6 @@ const UNKNOWN: [u32; UNKNOWN_COUNT as usize] = [
     2, 3, 256, 257, 65536, 2147483649, 4294967294, 4294967295,
 ];
 
-pub fn throw_unknown(seed: u64) -> Thrown {
-    let mut thrown = throw(seed, UNKNOWN_COUNT);
-    thrown.number = UNKNOWN[(thrown.number % UNKNOWN_COUNT) as usize];
-    thrown
+pub fn throw_unknown(chance: &mut Chance) -> u32 {
+    at(&UNKNOWN, chance.below(UNKNOWN_COUNT) as usize)
 }

@@ -1,241 +1,162 @@
 // Generated rule tables over a store's list, most of them good.
-use crate::chance::{Thrown, throw, throw_from};
-use evaluator::{MOST_STEPS, Row, left_of, questions, right_of, row_of};
+ghost use Rattle.std.specs.Prelude.{◌<◌, ◌^◌};
 
-// A table of up to sixteen rows, how many of its words there are, and the seed after it.
-#[derive(Clone, Copy)]
-pub struct Table {
-    pub words: [u32; 64],
-    pub length: u32,
-    pub seed: u64,
-}
+use crate::chance::Chance;
+use evaluator::{Equation, MOST_STEPS, Row, Store, Words};
 
-// A row, and the seed after it.
-#[derive(Clone, Copy)]
-struct Line {
-    row: Row,
-    seed: u64,
-}
+// A table of up to sixteen rows.
+pub type Table = Words<64>;
 
-// One of the first sixteen rows.
-fn put_row(mut table: Table, r: u32, row: Row) -> Table {
-    let place = 4 * (r as usize % 16);
-    table.words[place] = row.kind;
-    table.words[place + 1] = row.a;
-    table.words[place + 2] = row.b;
-    table.words[place + 3] = row.c;
-    table
-}
+// The words of a row.
+type RowWords = [u32; 4];
 
-fn equation(left: u32, right: u32, seed: u64) -> Line {
-    let row = Row {
-        kind: 2,
-        a: left,
-        b: right,
-        c: 0,
-    };
-    Line {
-        row: row,
-        seed: seed,
-    }
+fn asking(left: u32, right: u32) -> RowWords {
+    Row::Asks(Equation { left, right }).words()
 }
 
 // Steps to put on both sides of a question of a given gap: up to two, or any that the limit allows, or, now and then, just up to the limit or
 // one beyond it.
-fn throw_raise(seed: u64, gap: u32) -> Thrown {
+fn throw_raise(chance: &mut Chance, gap: u32) -> u32
+    ensures { result < 2 ^ 18 }
+{
     let spare = MOST_STEPS - gap % (MOST_STEPS + 1);
-    let way = throw(seed, 24);
-    let number = way.number;
-    match number {
-        0 => throw_from(way.seed, spare, 2),
-        1..=7 => throw(way.seed, 3),
-        _ => throw(way.seed, spare + 1),
+    match chance.below(24) {
+        0 => chance.from_on(spare, 2),
+        1..=7 => chance.below(3),
+        _ => chance.below(spare + 1),
     }
 }
 
-// A question as an equation: with the same steps more on both sides, and perhaps turned round. One side of a question has no steps.
-fn throw_raised(seed: u64, left: u32, right: u32) -> Line {
-    let more = throw_raise(seed, left / 32 + right / 32);
-    let round = throw(more.seed, 2);
-    let size = more.number % 2048 * 32;
-    if round.number == 0 {
-        return equation(right % 32768 + size, left % 32768 + size, round.seed);
+// A question as an equation: with the same steps more on both sides, and perhaps turned round.
+fn throw_raised(chance: &mut Chance, question: Equation) -> Equation {
+    let size = throw_raise(chance, question.gap()) * 32;
+    let raised = Equation {
+        left: question.left.saturating_add(size),
+        right: question.right.saturating_add(size),
+    };
+    if chance.once_in(2) {
+        raised.turned_round()
+    } else {
+        raised
     }
-    equation(left % 32768 + size, right % 32768 + size, round.seed)
 }
 
-fn throw_listed(seed: u64, store: &[u32]) -> Line {
-    let k = throw(seed, questions(store));
-    let number = k.number % 20 + 1;
-    throw_raised(k.seed, left_of(store, number), right_of(store, number))
+fn throw_listed(chance: &mut Chance, store: Store<'_>) -> Equation {
+    let k = chance.below(store.questions()) + 1;
+    throw_raised(chance, store.question(k))
 }
 
 // Nearly a question of the list: with one step more on one side.
-fn throw_missed(seed: u64, store: &[u32]) -> Line {
-    let line = throw_listed(seed, store);
-    let row = line.row;
-    equation(row.a % 65536 + 32, row.b, line.seed)
+fn throw_missed(chance: &mut Chance, store: Store<'_>) -> Equation {
+    let listed = throw_listed(chance, store);
+    Equation {
+        left: listed.left.saturating_add(32),
+        right: listed.right,
+    }
 }
 
-// An equation that may be on the list or not: terms of a field up to 4, which may be too large, and up to 2 steps.
-fn throw_equation(seed: u64) -> Line {
-    let field = throw(seed, 5);
-    let steps = throw(field.seed, 3);
-    let other = throw(steps.seed, 5);
-    let more = throw(other.seed, 3);
-    equation(
-        field.number + steps.number * 32,
-        other.number + more.number * 32,
-        more.seed,
-    )
+// A term of a field up to 4, which may be too large, and up to 2 steps.
+fn throw_term(chance: &mut Chance) -> u32 {
+    let field = chance.below(5);
+    field + 32 * chance.below(3)
+}
+
+// An equation that may be on the list or not.
+fn throw_equation(chance: &mut Chance) -> Equation {
+    let left = throw_term(chance);
+    let right = throw_term(chance);
+    Equation { left, right }
 }
 
 // A row of a kind that may be unknown, with small columns.
-fn throw_junk(seed: u64) -> Line {
-    let kind = throw(seed, 8);
-    let a = throw(kind.seed, 4);
-    let b = throw(a.seed, 4);
-    let c = throw(b.seed, 3);
-    let row = Row {
-        kind: kind.number,
-        a: a.number,
-        b: b.number,
-        c: c.number,
-    };
-    Line {
-        row: row,
-        seed: c.seed,
-    }
+fn throw_junk(chance: &mut Chance) -> RowWords {
+    let kind = chance.below(8);
+    let a = chance.below(4);
+    let b = chance.below(4);
+    let c = chance.below(3);
+    [kind, a, b, c]
 }
 
 // Not, and, or if-then-else of lower rows.
-fn throw_combined(seed: u64, r: u32) -> Line {
-    let kind = throw(seed, 3);
-    let a = throw(kind.seed, r);
-    let b = throw(a.seed, r);
-    let c = throw(b.seed, r);
-    Line {
-        row: row_of(3 + kind.number, a.number, b.number, c.number),
-        seed: c.seed,
+fn throw_combined(chance: &mut Chance, r: u32) -> Row {
+    let kind = chance.below(3);
+    let [a, b, c] = chance.three_below(r);
+    match kind {
+        0 => Row::Not(a),
+        1 => Row::And(a, b),
+        _ => Row::IfThenElse(a, b, c),
     }
 }
 
-fn throw_leaf(seed: u64) -> Line {
-    let kind = throw(seed, 2);
-    let row = Row {
-        kind: kind.number,
-        a: 0,
-        b: 0,
-        c: 0,
-    };
-    Line {
-        row: row,
-        seed: kind.seed,
+fn throw_leaf(chance: &mut Chance) -> Row {
+    if chance.once_in(2) {
+        Row::Never
+    } else {
+        Row::Always
     }
 }
 
 // A row that refers to no other: mostly a question of the list, if it has any.
-fn throw_first(seed: u64, store: &[u32]) -> Line {
-    if questions(store) == 0 {
-        throw_leaf(seed)
+fn throw_first(chance: &mut Chance, store: Store<'_>) -> Row {
+    if store.questions() == 0 || chance.once_in(12) {
+        throw_leaf(chance)
     } else {
-        throw_question(throw(seed, 12), store)
+        Row::Asks(throw_listed(chance, store))
     }
 }
 
-fn throw_question(thrown: Thrown, store: &[u32]) -> Line {
-    if thrown.number == 0 {
-        throw_leaf(thrown.seed)
+fn throw_good(chance: &mut Chance, store: Store<'_>, r: u32) -> Row {
+    if r > 0 && chance.below(5) > 1 {
+        throw_combined(chance, r)
     } else {
-        throw_listed(thrown.seed, store)
+        throw_first(chance, store)
     }
 }
 
-fn throw_good(seed: u64, store: &[u32], r: u32) -> Line {
-    if r == 0 {
-        throw_first(seed, store)
-    } else {
-        throw_later(throw(seed, 5), store, r)
-    }
-}
-
-fn throw_later(thrown: Thrown, store: &[u32], r: u32) -> Line {
-    if thrown.number > 1 {
-        throw_combined(thrown.seed, r)
-    } else {
-        throw_first(thrown.seed, store)
-    }
-}
-
-fn throw_row(seed: u64, store: &[u32], r: u32) -> Line {
-    let good = throw(seed, 80);
-    let way = good.number;
-    match way {
-        0 => throw_junk(good.seed),
-        1 | 2 => throw_equation(good.seed),
+fn throw_row(chance: &mut Chance, store: Store<'_>, r: u32) -> RowWords {
+    match chance.below(80) {
+        0 => throw_junk(chance),
+        1 | 2 => Row::Asks(throw_equation(chance)).words(),
         // S1024(1) = 1 is beyond the limit, and S1023(1) = 1 is not
-        3 => equation(32769, 1, good.seed),
-        4 => equation(32737, 1, good.seed),
-        5 => throw_missed(good.seed, store),
-        _ => throw_good(good.seed, store, r),
+        3 => asking(32769, 1),
+        4 => asking(32737, 1),
+        5 => Row::Asks(throw_missed(chance, store)).words(),
+        _ => throw_good(chance, store, r).words(),
     }
-}
-
-// Eight questions of the list, and after them choices among all rows before: such a rule has many entries.
-fn throw_rich_row(seed: u64, store: &[u32], r: u32) -> Line {
-    if r < 8 {
-        return throw_listed(seed, store);
-    }
-    let a = throw(seed, r);
-    let b = throw(a.seed, r);
-    let c = throw(b.seed, r);
-    Line {
-        row: row_of(5, a.number, b.number, c.number),
-        seed: c.seed,
-    }
-}
-
-fn throw_any_row(seed: u64, store: &[u32], r: u32, rich: bool) -> Line {
-    if rich {
-        throw_rich_row(seed, store, r)
-    } else {
-        throw_row(seed, store, r)
-    }
-}
-
-fn throw_rows(seed: u64, store: &[u32], rows: u32, rich: bool) -> Table {
-    let mut table = Table {
-        words: [0; 64],
-        length: 0,
-        seed: seed,
-    };
-    for r in 0..rows {
-        let line = throw_any_row(table.seed, store, r, rich);
-        table = put_row(table, r, line.row);
-        table.seed = line.seed;
-    }
-    table
 }
 
 // A table; now and then of no words, or of a number that is no multiple of four.
-pub fn throw_table(seed: u64, store: &[u32]) -> Table {
-    let rows = throw(seed, 14);
-    let mut table = throw_rows(rows.seed, store, rows.number + 1, false);
-    let cut = throw(table.seed, 60);
-    let way = cut.number;
-    table.seed = cut.seed;
-    table.length = match way {
+pub fn throw_table(chance: &mut Chance, store: Store<'_>) -> Table {
+    let mut table = Words::new();
+    for r in 0..=chance.below(14) {
+        let row = throw_row(chance, store, r);
+        table.extend_from_slice(&row);
+    }
+    let length = table.len();
+    table.set_len(match chance.below(60) {
         0 => 0,
-        1 => 4 * rows.number + 5,
-        2 => 4 * rows.number + 3,
-        _ => 4 * rows.number + 4,
-    };
+        1 => length + 1,
+        2 => length.saturating_sub(1),
+        _ => length,
+    });
     table
 }
 
+// Eight questions of the list, and after them choices among all rows before: such a rule has many entries.
+fn throw_rich_row(chance: &mut Chance, store: Store<'_>, r: u32) -> Row {
+    if r < 8 {
+        return Row::Asks(throw_listed(chance, store));
+    }
+    let [a, b, c] = chance.three_below(r);
+    Row::IfThenElse(a, b, c)
+}
+
 // A table of sixteen rows that is refused only where a term has too many steps.
-pub fn throw_rich_table(seed: u64, store: &[u32]) -> Table {
-    let mut table = throw_rows(seed, store, 16, true);
-    table.length = 64;
+pub fn throw_rich_table(chance: &mut Chance, store: Store<'_>) -> Table {
+    let mut table = Words::new();
+    for r in 0..16 {
+        let row = throw_rich_row(chance, store, r);
+        table.extend_from_slice(&row.words());
+    }
     table
 }

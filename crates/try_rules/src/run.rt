@@ -1,61 +1,77 @@
-// A run so far: the seed of what is thrown next, what was compared, and the ledger of the store at hand.
+// A run so far: the chance of what is thrown next, what was compared, and the ledger of the store at hand.
+use crate::chance::Chance;
+use crate::raw_openings::RawTally;
+use crate::sides::Sides;
+use crate::tally::Tally;
+use evaluator::{Answer, Words};
+
+// How many stores of an order were generated, and how many of them have a list that is in no other order.
+#[derive(Clone, Copy, Default)]
+pub struct Generated {
+    pub stores: u32,
+    pub in_one: u32,
+}
+
 #[derive(Clone, Copy)]
 pub struct Run {
-    pub seed: u64,
+    pub chance: Chance,
     pub compared: u64,
     pub differ: u64,
-    // how often an answer's number was met, at its place
-    pub met: [u32; 64],
-    // how many stores of each order were generated, and how many of them have a list that is in no other order
-    pub stores: [u32; 2],
-    pub in_one: [u32; 2],
-    // the handles of the ledger, and how many there are
-    pub handles: [u32; 32],
-    pub entered: u32,
+    // how often an answer's number was met
+    pub met: Tally,
+    // the stores that were generated, by their order
+    pub stores: [Generated; 2],
+    // the handles of the ledger
+    pub ledger: Words<32>,
+    pub sides: Sides,
+    pub raw: RawTally,
 }
 
-pub fn begun() -> Run {
-    Run {
-        seed: 1,
-        compared: 0,
-        differ: 0,
-        met: [0; 64],
-        stores: [0; 2],
-        in_one: [0; 2],
-        handles: [0; 32],
-        entered: 0,
+impl Run {
+    pub fn begun() -> Run {
+        Run {
+            chance: Chance::new(),
+            compared: 0,
+            differ: 0,
+            met: Tally::new(),
+            stores: [Generated::default(); 2],
+            ledger: Words::new(),
+            sides: Sides::new(),
+            raw: RawTally::default(),
+        }
     }
-}
 
-// So many comparisons, of which so many differ.
-pub fn count(mut run: Run, compared: u32, differ: u32) -> Run {
-    run.compared = run.compared % 1000000000000 + compared as u64;
-    run.differ = run.differ % 1000000000000 + differ as u64;
-    run
-}
+    // So many comparisons, of which so many differ.
+    pub fn count(&mut self, compared: u32, differ: usize) {
+        self.compared = self.compared.saturating_add(u64::from(compared));
+        self.differ = self.differ.saturating_add(differ as u64);
+    }
 
-// One comparison.
-pub fn agree(run: Run, same: bool) -> Run {
-    count(run, 1, !same as u32)
-}
+    // One comparison.
+    pub fn agree(&mut self, same: bool) {
+        self.count(1, usize::from(!same));
+    }
 
-// One generated store of an order.
-pub fn count_store(mut run: Run, order: u32, in_one: bool) -> Run {
-    let place = (order % 2) as usize;
-    run.stores[place] = run.stores[place] % 1000000000 + 1;
-    run.in_one[place] = run.in_one[place] % 1000000000 + in_one as u32 % 2;
-    run
-}
+    // One store.
+    pub fn count_store(&mut self, order: u32, is_in_one: bool) {
+        if let Some(generated) = self.stores.get_mut(order as usize) {
+            generated.stores = generated.stores.saturating_add(1);
+            generated.in_one = generated.in_one.saturating_add(u32::from(is_in_one));
+        }
+    }
 
-// A number that was found against the one that was expected.
-pub fn expect_number(mut run: Run, found: u32, expected: u32) -> Run {
-    let place = (found % 64) as usize;
-    run.met[place] = run.met[place] % 1000000000 + 1;
-    agree(run, found == expected)
-}
+    // A number that was found against the one that was expected.
+    pub fn expect_number<E: Into<Answer>>(&mut self, found: u32, expected: E) {
+        let expected: Answer = expected.into();
+        self.met.count(found);
+        self.agree(found == expected.number);
+    }
 
-// An answer that was found against the one that was expected.
-pub fn expect_answer(mut run: Run, found: sheet::Answer, expected: evaluator::Answer) -> Run {
-    run = expect_number(run, found.number, expected.number);
-    agree(run, found.result == expected.result)
+    // An answer that was found against the one that was expected.
+    pub fn expect_answer<E: Into<Answer>>(&mut self, found: sheet::Answer, expected: E) {
+        let expected: Answer = expected.into();
+        self.met.count(found.number);
+        self.agree(found.number == expected.number);
+        self.agree(found.result == expected.result);
+    }
 }

@@ -1,65 +1,62 @@
 // Lists spoiled in one way or another.
-ghost use Rattle.std.specs.Prelude.{◌+◌, ◌<◌, ◌^◌};
+ghost use Rattle.std.specs.Prelude.{◌<◌, ◌^◌};
 
-use crate::chance::throw;
-use crate::lists::{List, put_pair};
+use crate::chance::Chance;
+use crate::lists::{List, ShortList};
 use crate::orders::{other_order, throw_unknown};
-use evaluator::word_at;
+use evaluator::{at, put};
+
+impl<const N: usize> List<N> {
+    // Writes a word over one of the list's, at any place.
+    pub fn spoil_word(&mut self, place: u32, word: u32) {
+        put(self.words.room_mut(), place as usize, word);
+    }
+}
+
+// Any place of a list.
+pub fn throw_place<const N: usize>(chance: &mut Chance, list: &List<N>) -> u32 {
+    let length = u32::try_from(list.words.len()).unwrap_or(u32::MAX);
+    chance.below(length)
+}
 
 // Writes a thrown word over one of the list.
-fn spoil_word(mut list: List, least: u32, bound: u32) -> List
-    requires { least + bound < 2 ^ 32 }
+fn spoil_word(chance: &mut Chance, list: &mut ShortList, least: u32, bound: u32)
+    requires { least < 2 ^ 17 }
 {
-    let place = throw(list.seed, list.length);
-    let word = throw(place.seed, bound);
-    let at = place.number;
-    list.seed = word.seed;
-    if at < 44 {
-        list.words[at as usize] = least + word.number;
-    }
-    list
+    let place = throw_place(chance, list);
+    let word = chance.from_on(least, bound);
+    list.spoil_word(place, word);
 }
 
 // Turns a question round, or writes it over the next one.
-fn spoil_pair(mut list: List, round: bool) -> List {
-    let words = list.words;
-    let place = throw(list.seed, list.length);
-    let pair = 2 * ((place.number / 2) as usize);
-    let left = word_at(&words, pair);
-    let right = word_at(&words, pair + 1);
-    list.seed = place.seed;
+fn spoil_pair(chance: &mut Chance, list: &mut ShortList, round: bool) {
+    let pair = throw_place(chance, list) as usize / 2 * 2;
+    let words = list.words.room_mut();
+    let left = at(words, pair);
+    let right = at(words, pair + 1);
     if round {
-        return put_pair(list, pair, right, left);
+        put(words, pair, right);
+        put(words, pair + 1, left);
+    } else {
+        put(words, pair + 2, left);
+        put(words, pair + 3, right);
     }
-    put_pair(list, pair + 2, left, right)
-}
-
-// Gives the list with a word that is no order.
-fn spoil_order(mut list: List) -> List {
-    let unknown = throw_unknown(list.seed);
-    list.order = unknown.number;
-    list.seed = unknown.seed;
-    list
 }
 
 // Spoils a list in one of ten ways, or leaves it as it is. A list that is given with the other order may still be good.
-pub fn spoil(mut list: List) -> List {
-    let thrown = throw(list.seed, 24);
-    let way = thrown.number;
-    list.seed = thrown.seed;
-    match way {
+pub fn spoil(chance: &mut Chance, list: &mut ShortList) {
+    match chance.below(24) {
         0 => list.n = 17,
-        1 => list.length = list.length % 40 + 1,
-        2 => list.length = 42,
+        1 => list.words.set_len(list.words.len() % 40 + 1),
+        2 => list.words.set_len(42),
         // steps above 1,023, and from 1,021 to 1,024
-        3 => return spoil_word(list, 32768, 2048),
-        4 => return spoil_word(list, 32672, 128),
-        5 => return spoil_word(list, 0, 128),
-        6 => return spoil_pair(list, true),
-        7 => return spoil_pair(list, false),
+        3 => spoil_word(chance, list, 32768, 2048),
+        4 => spoil_word(chance, list, 32672, 128),
+        5 => spoil_word(chance, list, 0, 128),
+        6 => spoil_pair(chance, list, true),
+        7 => spoil_pair(chance, list, false),
         8 | 9 => list.order = other_order(list.order),
-        10 => return spoil_order(list),
+        10 => list.order = throw_unknown(chance),
         _ => {}
     }
-    list
 }

@@ -1,125 +1,88 @@
 // Write back, against the evaluator, and built again.
-ghost use Rattle.std.specs.Prelude.{◌≤◌};
+use crate::run::Run;
+use evaluator::{Call, Limits, Store, Words, check_table, expect_written, first};
+use sheet::{Answer, sheet_build, sheet_write_back};
 
-use crate::chance::throw;
-use crate::run::{Run, agree, count, expect_answer, expect_number};
-use evaluator::{
-    accepted, all_are, copy, differences, expect_written, fields, institute_limits, part, row_of,
-    same_words, sheets_of, table_fault, word_at,
-};
-use sheet::{sheet_build, sheet_write_back};
-
-// What was written back into words that were all 7, and the answer.
+// The answer, and what was written back into words that were all 7, with more of them behind.
 #[derive(Clone, Copy)]
 pub struct Written {
-    pub number: u32,
-    pub rows: u32,
-    pub words: [u32; 1024],
+    pub answer: Answer,
+    words: Words<1024>,
 }
 
-pub fn write_back(store: &[u32], handle: u32, length: usize) -> Written
-    requires { length ≤ 1024 }
-{
-    let mut words = [7u32; 1024];
-    let found = sheet_write_back(store, handle, &mut words[0..length]);
+impl Written {
+    // The rows that were written.
+    fn table(&self) -> &[u32] {
+        first(self.words.room(), 4 * self.answer.result as usize)
+    }
+
+    // Whether the words after the rows are all 7.
+    fn is_kept(&self) -> bool {
+        let end = 4 * self.answer.result as usize;
+        self.words.room().iter().skip(end).all(|word| *word == 7)
+    }
+}
+
+// Writes a handle back into so many words, at most 1,024.
+pub fn write_back(store: Store<'_>, handle: u32, length: usize) -> Written {
+    let mut words = Words::filled(7, length);
     Written {
-        number: found.number,
-        rows: found.result,
+        answer: sheet_write_back(store.0, handle, words.as_mut_slice()),
         words: words,
     }
 }
 
 // What was written into so many words: number and rows, the words after the rows, and the meaning of the rows.
-fn compare_written(
-    mut run: Run,
-    store: &[u32],
-    handle: u32,
-    length: usize,
-    written: Written,
-) -> Run {
+fn compare_written(run: &mut Run, store: Store<'_>, handle: u32, length: usize, written: &Written) {
     let expected = expect_written(store, handle, length);
-    let array = written.words;
-    let words: &[u32] = &array;
-    let end = 4 * (written.rows as usize);
-    let same = written.rows == expected.result;
-    let kept = all_are(part(words, end, 1024), 7);
-    run = expect_number(run, written.number, expected.number);
-    if expected.number == 0 {
-        run = agree(run, same);
-        run = agree(run, kept);
-        compare_rows(run, store, handle, part(words, 0, end))
-    } else {
-        agree(run, same & kept)
+    let is_kept = written.is_kept();
+    run.expect_number(written.answer.number, expected);
+    match expected {
+        Ok(rows) => {
+            run.agree(written.answer.result == rows);
+            run.agree(is_kept);
+            compare_rows(run, store, handle, written.table());
+        }
+        Err(_) => run.agree(written.answer.result == 0 && is_kept),
     }
 }
 
 // The rows written back mean what the handle means.
-fn compare_rows(run: Run, store: &[u32], handle: u32, table: &[u32]) -> Run {
-    let differ = differences(store, row_of(2, 0, 0, 0), table, handle);
-    count(run, sheets_of(fields(store)), differ)
+fn compare_rows(run: &mut Run, store: Store<'_>, handle: u32, table: &[u32]) {
+    let differ = store.differences(Call::Build(table), handle);
+    run.count(store.sheets(), differ);
 }
 
-// Writes back into so many words, and compares.
-pub fn ask_written(run: Run, store: &[u32], handle: u32, length: usize) -> Run
-    requires { length ≤ 1024 }
-{
-    compare_written(
-        run,
-        store,
-        handle,
-        length,
-        write_back(store, handle, length),
-    )
-}
-
-fn build_copy(mut run: Run, store: &[u32], handle: u32, table: &[u32], words: &mut [u32]) -> Run {
-    let found = sheet_build(words, table);
-    run = expect_answer(run, found, accepted(handle));
-    agree(run, same_words(store, words))
+// Writes back into so many words, at most 1,024, and compares.
+pub fn ask_written(run: &mut Run, store: Store<'_>, handle: u32, length: usize) {
+    let written = write_back(store, handle, length);
+    compare_written(run, store, handle, length, &written);
 }
 
 // Builds a written rule again, on a copy of the store: the handle is the same, and no word changes.
-fn build_again(mut run: Run, store: &[u32], handle: u32, table: &[u32]) -> Run {
-    let mut words = [0u32; 512];
-    let end = store.len();
-    run = agree(run, table_fault(institute_limits(), store, table) == 0);
-    copy(store, &mut words);
-    if end > 512 {
-        return run;
-    }
-    build_copy(run, store, handle, table, &mut words[0..end])
+fn build_again(run: &mut Run, store: Store<'_>, handle: u32, table: &[u32]) {
+    let mut words = Words::<512>::new();
+    words.extend_from_slice(store.0);
+    run.agree(check_table(Limits::INSTITUTE, store, table).is_ok());
+    let found = sheet_build(words.as_mut_slice(), table);
+    run.expect_answer(found, Ok(handle));
+    run.agree(words.as_slice() == store.0);
 }
 
 // Writes a handle back that a call returned, and builds it again.
-fn write_thrown(mut run: Run, store: &[u32], handle: u32) -> Run {
-    let thrown = throw(run.seed, 1500);
-    let length = within(thrown.number as usize);
-    run.seed = thrown.seed;
+fn write_thrown(run: &mut Run, store: Store<'_>, handle: u32) {
+    let length = (run.chance.below(1500) as usize).min(1024);
     let written = write_back(store, handle, length);
-    run = compare_written(run, store, handle, length, written);
-    let words = written.words;
-    let rows = written.rows;
-    match rows {
-        0 => run,
-        _ => build_again(run, store, handle, part(&words, 0, 4 * (rows as usize))),
+    compare_written(run, store, handle, length, &written);
+    if written.answer.result > 0 {
+        build_again(run, store, handle, written.table());
     }
-}
-
-// So many words, or all there are.
-fn within(length: usize) -> usize
-    ensures { result ≤ 1024 }
-{
-    if length > 1024 {
-        return 1024;
-    }
-    length
 }
 
 // Each handle of the ledger, into a slice of any length.
-pub fn write_handles(mut run: Run, store: &[u32]) -> Run {
-    let handles = run.handles;
-    for i in 0..run.entered {
-        run = write_thrown(run, store, word_at(&handles, i as usize));
+pub fn write_handles(run: &mut Run, store: Store<'_>) {
+    let ledger = run.ledger;
+    for handle in ledger.as_slice() {
+        write_thrown(run, store, *handle);
     }
-    run
 }

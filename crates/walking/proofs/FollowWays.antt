@@ -1,10 +1,9 @@
 -- The value of a handle is that of the handle which follows it, so it stays the same on the way down, and the handle falls.
 use Prim.Native.Nat.{ℕ, ◌+◌, ◌-◌, ◌≤◌, ◌<◌}
 use mathlib.Core.Path.{◌≡◌, sym, ap, subst, ◌∙◌}
-use mathlib.Core.Logic.{◌≢◌}
 use mathlib.Core.List.{List}
 use native.Mathlib.Omega.{arith}
-use borrow.Author.Tests.{eq-eqb, ne_eqb}
+use lib.Dec.{eqb}
 use Rattle.facts.specs.declared.decision.Decision.{Decision}
 use Rattle.facts.specs.declared.decision.Decision.TheVariants.{Always, Never, Open}
 use Rattle.facts.specs.declared.record.Facts.{Facts}
@@ -13,10 +12,10 @@ use Rattle.facts.specs.Record.{state}
 use Rattle.facts.specs.State.{State, decide}
 use Rattle.store.specs.declared.entries.Entry.{Entry}
 use Rattle.store.specs.Layout.{question, used, entry, leaves}
-use Rattle.store.specs.Needs.{HasQuestion, HasEntry}
+use Rattle.store.specs.Needs.{HasQuestion}
 use Rattle.terms.specs.declared.term.Equation.{Equation}
 use Rattle.walking.specs.Needs.{Walkable, CanFollow}
-use Rattle.walking.specs.Value.{tree_value, handle_value}
+use Rattle.walking.specs.Value.{leaf_value, tree_value, handle_value}
 use Rattle.facts.proofs.HeldFacts.{holds_ready}
 use Rattle.store.proofs.ByHandles.{Falling, tree_entry}
 use Rattle.store.proofs.SoundTree.{tree_leaf}
@@ -39,14 +38,9 @@ module _ {s : List ℕ} (w : Walkable s) (i : ℕ) (h : i < used s) (st : State)
   value_open e = rw (tree_entry (falling w) i h, e, tree_value)
 
 -- ---- the value at a leaf
-module _ (s : List ℕ) (st : State) {h : ℕ} (l : h < leaves) where
-  value_always : h ≡ 1 → Always ≡ handle_value s h st
-  unfolding tree_value
-  value_always e = rw (tree_leaf s h l, eq-eqb h 1 e)
-
-  value_never : h ≢ 1 → Never ≡ handle_value s h st
-  unfolding tree_value
-  value_never n = rw (tree_leaf s h l, ne_eqb h 1 n)
+value_leaf : (s : List ℕ) (st : State) {h : ℕ} → h < leaves → leaf_value (eqb h 1) ≡ handle_value s h st
+unfolding tree_value
+value_leaf s st {h} l = rw (tree_leaf s h l)
 
 -- on the way down from a handle, at h
 pub record Following (s : List ℕ) (handle : ℕ) (st : State) (h : ℕ) : Type 0 where
@@ -54,16 +48,10 @@ pub record Following (s : List ℕ) (handle : ℕ) (st : State) (h : ℕ) : Type
   pub same : handle_value s handle st ≡ handle_value s h st
 
 module _ {s : List ℕ} {handle : ℕ} {f : Facts} (w : CanFollow s handle f) where
-  pub follow_start : {h : ℕ} → h ≡ handle → Following s handle (state f) h
-  follow_start e = record { named = omega (arith, w.named); same = ap (λ (x : ℕ). handle_value s x (state f)) (sym e) }
-
   module _ {h : ℕ} (inv : Following s handle (state f) h) where
     -- ---- at a leaf
-    pub follow_always : h < leaves → h ≡ 1 → Always ≡ handle_value s handle (state f)
-    follow_always l e = value_always s (state f) l e ∙ sym inv.same
-
-    pub follow_never : h < leaves → h ≢ 1 → Never ≡ handle_value s handle (state f)
-    follow_never l n = value_never s (state f) l n ∙ sym inv.same
+    pub follow_leaf : h < leaves → {d : Decision} → d ≡ leaf_value (eqb h 1) → d ≡ handle_value s handle (state f)
+    follow_leaf l e = e ∙ value_leaf s (state f) l ∙ sym inv.same
 
     -- ---- at an entry
     module _ (l : leaves ≤ h) {i : ℕ} (ei : i ≡ h - leaves) where
@@ -72,9 +60,6 @@ module _ {s : List ℕ} {handle : ℕ} {f : Facts} (w : CanFollow s handle f) wh
 
       at_entry : handle_value s handle (state f) ≡ handle_value s (i + leaves) (state f)
       at_entry = inv.same ∙ ap (λ (x : ℕ). handle_value s x (state f)) (omega arith)
-
-      pub at_handle_entry : HasEntry s i
-      at_handle_entry = omega (arith, entry_used, w.walkable.used_in)
 
       module _ {e : Entry} (ee : e ≡ entry s i) where
         asked : {k : ℕ} → k ≡ e.question → k ≡ (entry s i).question
@@ -116,14 +101,3 @@ module _ {s : List ℕ} {handle : ℕ} {f : Facts} (w : CanFollow s handle f) wh
                   named = omega (arith, entry_used, w.walkable.no_below i entry_used);
                   same = at_entry ∙ value_no w.walkable i entry_used (state f) (decides ∙ z) ∙ ap (λ (x : ℕ). handle_value s x (state f)) (sym at);
                 }
-
-        -- "its handles are smaller than its own"
-        pub falls_yes : {y : ℕ} → y ≡ e.yes → y < h
-        falls_yes {y} ey =
-            let at : y ≡ (entry s i).yes = ey ∙ ap (λ (x : Entry). x.yes) ee in
-            omega (arith, w.walkable.yes_below i entry_used)
-
-        pub falls_no : {n : ℕ} → n ≡ e.no → n < h
-        falls_no {n} en =
-            let at : n ≡ (entry s i).no = en ∙ ap (λ (x : Entry). x.no) ee in
-            omega (arith, w.walkable.no_below i entry_used)

@@ -1,6 +1,5 @@
 pub mod FollowWays
 pub mod RowValues
-pub mod ValueWays
 pub mod PlaceWays
 pub mod PlaceIndexed
 pub mod WalkableAdded

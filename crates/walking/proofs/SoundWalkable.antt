@@ -42,9 +42,9 @@ sound_walkable limits s fit t =
     }
 
 -- "start with no facts"
-pub can_begin : {limits : Limits} (s source : List ℕ) (subject : Subject) {f : Facts} → FitLimits limits → sound limits s ≡ true → Named s source subject
-    → state f ≡ start → CanWalk limits s source subject f 1 (question_count s)
-can_begin {limits} s source subject fit t named e = record {
+pub can_begin : {limits : Limits} (s : List ℕ) (subject : Subject) {f : Facts} → FitLimits limits → sound limits s ≡ true → Named s subject
+    → state f ≡ start → CanWalk limits s subject f 1 (question_count s)
+can_begin {limits} s subject fit t named e = record {
   fit = fit;
   walkable = sound_walkable limits s fit t;
   named = named;

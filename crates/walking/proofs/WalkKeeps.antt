@@ -103,28 +103,28 @@ by_decision P a n o Open = o
 leaf_goes : {s : List ℕ} → Walkable s → (h : ℕ) → h < leaves → GoesOn s (outcome (Some h) s)
 leaf_goes w h l = stays_at w h (omega arith)
 
-module _ (limits : Limits) (fit : FitLimits limits) (source : List ℕ) (subject : Subject) where
+module _ (limits : Limits) (fit : FitLimits limits) (subject : Subject) where
   -- what follows the no part, and the yes part
   abbrev after_no : ℕ → ℕ → ℕ → List ℕ → Outcome (Option ℕ)
   after_no k y n s₂ = place_parts limits s₂ (entry_of k y n)
 
   abbrev after_yes : ℕ → ℕ → State → ℕ → List ℕ → Outcome (Option ℕ)
-  after_yes left k st y s₁ = then_place (walk limits s₁ source subject left (k + 1) st) (after_no k y)
+  after_yes left k st y s₁ = then_place (walk limits s₁ subject left (k + 1) st) (after_no k y)
 
-  pub walk_goes : (left k : ℕ) (st : State) (s : List ℕ) → Walkable s → 1 ≤ k → k + left ≤ question_count s + 1 → GoesOn s (walk limits s source subject left k st)
+  pub walk_goes : (left k : ℕ) (st : State) (s : List ℕ) → Walkable s → 1 ≤ k → k + left ≤ question_count s + 1 → GoesOn s (walk limits s subject left k st)
   unfolding walk
   walk_goes zero k st s w first last =
       by_decision (λ d. GoesOn s (elim d [ Always ↦ outcome (Some 1) s | Never ↦ outcome (Some 0) s | Open ↦ outcome (Some 0) s ]))
-      (leaf_goes w 1 (omega arith)) (leaf_goes w 0 (omega arith)) (leaf_goes w 0 (omega arith)) (subject_value s source subject st)
+      (leaf_goes w 1 (omega arith)) (leaf_goes w 0 (omega arith)) (leaf_goes w 0 (omega arith)) (subject_value s subject st)
   walk_goes (suc left) k st s w first last =
       let q = question s k in
-      let skipped : Outcome (Option ℕ) = walk limits s source subject left (k + 1) st in
+      let skipped : Outcome (Option ℕ) = walk limits s subject left (k + 1) st in
       let skip_goes : GoesOn s skipped = walk_goes left (k + 1) st s w (omega arith) (omega arith) in
-      let yes_part : Outcome (Option ℕ) = walk limits s source subject left (k + 1) (yes_to st q) in
+      let yes_part : Outcome (Option ℕ) = walk limits s subject left (k + 1) (yes_to st q) in
       let yes_goes : GoesOn s yes_part = walk_goes left (k + 1) (yes_to st q) s w (omega arith) (omega arith) in
       let s₁ = yes_part.words in
       let same₁ = questions_agree yes_goes.agrees in
-      let no_part : Outcome (Option ℕ) = walk limits s₁ source subject left (k + 1) (no_to st q) in
+      let no_part : Outcome (Option ℕ) = walk limits s₁ subject left (k + 1) (no_to st q) in
       let no_goes : GoesOn s₁ no_part = walk_goes left (k + 1) (no_to st q) s₁ yes_goes.walkable (omega arith) (omega arith) in
       let same₂ = questions_agree no_goes.agrees in
       let asked : Outcome (Option ℕ) = then_place yes_part (after_yes left k (no_to st q)) in
@@ -138,4 +138,4 @@ module _ (limits : Limits) (fit : FitLimits limits) (source : List ℕ) (subject
       ]))
       (leaf_goes w 1 (omega arith)) (leaf_goes w 0 (omega arith))
       (by_decision (λ d. GoesOn s (elim d [ Always ↦ skipped | Never ↦ skipped | Open ↦ asked ])) skip_goes skip_goes asked_goes (decide st q))
-      (subject_value s source subject st)
+      (subject_value s subject st)

@@ -66,7 +66,7 @@ row_values st table (suc k) =
 abbrev pub table_value : List ℕ → State → Decision
 table_value table st = get_or (row_values st table (row_count table)) (row_count table - 1) Never
 
--- the subject of a walk: the source as a rule table, or handles of the store
-abbrev pub subject_value : List ℕ → List ℕ → Subject → State → Decision
-subject_value s source Table st = table_value source st
-subject_value s source (Choice a b c) st = choose_value (handle_value s a st) (handle_value s b st) (handle_value s c st)
+-- the subject of a walk: a rule table, or handles of the store
+abbrev pub subject_value : List ℕ → Subject → State → Decision
+subject_value s (Table rows) st = table_value rows.now st
+subject_value s (Choice a b c) st = choose_value (handle_value s a st) (handle_value s b st) (handle_value s c st)

@@ -16,17 +16,17 @@ unfoldable pub place_parts : Limits → List ℕ → Entry → Outcome (Option �
 place_parts limits s e = cond (eqb e.yes e.no) (outcome (Some e.yes) s) (place_entry limits s e)
 
 -- with so many questions left, the next one numbered k
-unfoldable pub walk : Limits → List ℕ → List ℕ → Subject → ℕ → ℕ → State → Outcome (Option ℕ)
-walk limits s source subject zero k st =
-    elim (subject_value s source subject st) [ Always ↦ outcome (Some 1) s | Never ↦ outcome (Some 0) s | Open ↦ outcome (Some 0) s ]
-walk limits s source subject (suc left) k st =
-    elim (subject_value s source subject st) [
+unfoldable pub walk : Limits → List ℕ → Subject → ℕ → ℕ → State → Outcome (Option ℕ)
+walk limits s subject zero k st =
+    elim (subject_value s subject st) [ Always ↦ outcome (Some 1) s | Never ↦ outcome (Some 0) s | Open ↦ outcome (Some 0) s ]
+walk limits s subject (suc left) k st =
+    elim (subject_value s subject st) [
       | Always ↦ outcome (Some 1) s
       | Never ↦ outcome (Some 0) s
       | Open ↦ elim (decide st (question s k)) [
-        | Always ↦ walk limits s source subject left (k + 1) st
-        | Never ↦ walk limits s source subject left (k + 1) st
-        | Open ↦ then_place (walk limits s source subject left (k + 1) (yes_to st (question s k)))
-            (λ y s₁. then_place (walk limits s₁ source subject left (k + 1) (no_to st (question s k))) (λ n s₂. place_parts limits s₂ (entry_of k y n)))
+        | Always ↦ walk limits s subject left (k + 1) st
+        | Never ↦ walk limits s subject left (k + 1) st
+        | Open ↦ then_place (walk limits s subject left (k + 1) (yes_to st (question s k)))
+            (λ y s₁. then_place (walk limits s₁ subject left (k + 1) (no_to st (question s k))) (λ n s₂. place_parts limits s₂ (entry_of k y n)))
       ]
     ]

@@ -4,6 +4,7 @@ ghost use Rattle.facts.specs.Record as facts;
 ghost use Rattle.walking.specs.Needs.{CanFollow};
 ghost use Rattle.walking.specs.Value as spec;
 
+use crate::truths::leaf_value;
 use facts::{Decision, Facts, decision_of};
 use store::{LEAVES, entry_of, question_at, wide};
 
@@ -15,21 +16,11 @@ pub fn handle_value(s: &[u32], handle: u32, f: Facts) -> Decision
     let mut h = wide(handle);
     while LEAVES <= h {
         let e = entry_of(s, h - LEAVES);
-        let decision = decision_of(f, question_at(s, wide(e.question)));
-        match decision {
-            Decision::Always => {
-                h = wide(e.yes);
-            }
-            Decision::Never => {
-                h = wide(e.no);
-            }
-            Decision::Open => {
-                return Decision::Open;
-            }
-        }
+        h = match decision_of(f, question_at(s, wide(e.question))) {
+            Decision::Always => wide(e.yes),
+            Decision::Never => wide(e.no),
+            Decision::Open => return Decision::Open,
+        };
     }
-    if h == 1 {
-        return Decision::Always;
-    }
-    Decision::Never
+    leaf_value(h == 1)
 }

@@ -5,51 +5,37 @@ ghost use Rattle.store.specs.Outcome.{outcome};
 ghost use Rattle.walking.specs.Needs.{InIndex, CanPlace};
 ghost use Rattle.walking.specs.Walk as walking;
 
-use diagram::Placed;
-use index::{Lasts, Links, find, put};
+use index::Index;
 use store::{Entry, LEAVES, append, entries_start, room, used, wide};
 use terms::Limits;
 
 // The handle of an entry: one that is there, or a new one where there is room.
-pub fn place_entry(
-    limits: Limits,
-    store: &mut [u32],
-    lasts: &mut Lasts,
-    links: &mut Links,
-    e: Entry,
-) -> Placed
-    requires { CanPlace limits store.old lasts.old links.old }
+pub fn place_entry(limits: Limits, store: &mut [u32], index: &mut Index, e: Entry) -> Option<u32>
+    requires { CanPlace limits store.old index.old }
     ensures store_after { outcome result store.new ≡ spec.place_entry limits store.old e }
-    ensures in_index { InIndex store.new lasts.new links.new }
+    ensures in_index { InIndex store.new index.new }
 {
-    let entries = wide(used(store));
     let start = entries_start(store);
-    let i = find(store, start, entries, e, lasts, links);
-    if i < entries {
-        return Placed::At((i + LEAVES) as u32);
+    if let Some(i) = index.find(store, start, e) {
+        return Some((i + LEAVES) as u32);
     }
+    let entries = wide(used(store));
     if entries < room(limits, store) {
         append(store, e);
-        put(store, start, entries, lasts, links);
-        return Placed::At((entries + LEAVES) as u32);
+        index.put(e);
+        return Some((entries + LEAVES) as u32);
     }
-    Placed::Full
+    None
 }
 
 // The handle of a question and its two parts: if they are the same, that part stands.
-pub fn place_parts(
-    limits: Limits,
-    store: &mut [u32],
-    lasts: &mut Lasts,
-    links: &mut Links,
-    e: Entry,
-) -> Placed
-    requires { CanPlace limits store.old lasts.old links.old }
+pub fn place_parts(limits: Limits, store: &mut [u32], index: &mut Index, e: Entry) -> Option<u32>
+    requires { CanPlace limits store.old index.old }
     ensures store_after { outcome result store.new ≡ walking.place_parts limits store.old e }
-    ensures in_index { InIndex store.new lasts.new links.new }
+    ensures in_index { InIndex store.new index.new }
 {
     if e.yes == e.no {
-        return Placed::At(e.yes);
+        return Some(e.yes);
     }
-    place_entry(limits, store, lasts, links, e)
+    place_entry(limits, store, index, e)
 }

@@ -8,27 +8,25 @@ ghost use Rattle.walking.specs.Walk as spec;
 use crate::placing::place_parts;
 use crate::subject::Subject;
 use crate::valuing::value;
-use diagram::Placed;
-use facts::{Decision, Facts, ask, no};
-use index::{Lasts, Links};
+use facts::{Asked, Decision, Facts, ask, no};
+use index::Index;
 use store::{Entry, question_at, wide};
 use terms::Limits;
 
 // What a walk finishes a diagram for, and within which limits.
 #[derive(Clone, Copy)]
-pub struct Goal {
+pub struct Goal<'a> {
     pub limits: Limits,
-    pub subject: Subject,
+    pub subject: Subject<'a>,
 }
 
 // The leaf of a value that is known.
-fn leaf(d: Decision) -> Placed
+fn leaf(d: Decision) -> u32
     ensures { result ≡ leaf_of d }
 {
     match d {
-        Decision::Always => Placed::At(1),
-        Decision::Never => Placed::At(0),
-        Decision::Open => Placed::At(0),
+        Decision::Always => 1,
+        Decision::Never | Decision::Open => 0,
     }
 }
 
@@ -36,45 +34,35 @@ fn leaf(d: Decision) -> Placed
 pub fn walk(
     goal: Goal,
     store: &mut [u32],
-    lasts: &mut Lasts,
-    links: &mut Links,
-    source: &[u32],
+    index: &mut Index,
     f: Facts,
     k: u32,
     left: u32,
-) -> Placed
-    requires can_walk { CanWalk goal.limits store.old source.now goal.subject f k left }
-    requires in_index { InIndex store.old lasts.old links.old }
+) -> Option<u32>
+    requires can_walk { CanWalk goal.limits store.old goal.subject f k left }
+    requires in_index { InIndex store.old index.old }
     ensures store_after { outcome result store.new
-        ≡ spec.walk goal.limits store.old source.now goal.subject left k (facts.state f) }
-    ensures in_index_2 { InIndex store.new lasts.new links.new }
+        ≡ spec.walk goal.entry.limits store.old goal.entry.subject left k (facts.state f) }
+    ensures in_index_2 { InIndex store.new index.new }
 {
-    let subject = goal.subject;
-    let known = value(store, source, subject, f);
+    let known = value(store, goal.subject, f);
     if left == 0 {
-        return leaf(known);
+        return Some(leaf(known));
     }
     let Decision::Open = known else {
-        return leaf(known);
+        return Some(leaf(known));
     };
     let q = question_at(store, wide(k));
-    let asked = ask(f, q);
-    let decision = asked.decision;
-    let Decision::Open = decision else {
-        return walk(goal, store, lasts, links, source, f, k + 1, left - 1);
+    let Asked::Open(yes) = ask(f, q) else {
+        return walk(goal, store, index, f, k + 1, left - 1);
     };
-    let yes = asked.yes;
     let other = no(f, q);
-    let Placed::At(y) = walk(goal, store, lasts, links, source, yes, k + 1, left - 1) else {
-        return Placed::Full;
-    };
-    let Placed::At(n) = walk(goal, store, lasts, links, source, other, k + 1, left - 1) else {
-        return Placed::Full;
-    };
+    let y = walk(goal, store, index, yes, k + 1, left - 1)?;
+    let n = walk(goal, store, index, other, k + 1, left - 1)?;
     let e = Entry {
         question: k,
         yes: y,
         no: n,
     };
-    place_parts(goal.limits, store, lasts, links, e)
+    place_parts(goal.limits, store, index, e)
 }

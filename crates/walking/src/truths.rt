@@ -15,18 +15,10 @@ pub fn leaf_value(b: bool) -> Decision
 fn agreed(a: Decision, b: Decision) -> Decision
     ensures { result ≡ spec.agreed a b }
 {
-    match a {
-        Decision::Always => match b {
-            Decision::Always => Decision::Always,
-            Decision::Never => Decision::Open,
-            Decision::Open => Decision::Open,
-        },
-        Decision::Never => match b {
-            Decision::Always => Decision::Open,
-            Decision::Never => Decision::Never,
-            Decision::Open => Decision::Open,
-        },
-        Decision::Open => Decision::Open,
+    match (a, b) {
+        (Decision::Always, Decision::Always) => Decision::Always,
+        (Decision::Never, Decision::Never) => Decision::Never,
+        _ => Decision::Open,
     }
 }
 

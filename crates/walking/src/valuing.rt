@@ -11,12 +11,12 @@ use crate::truths::choose_value;
 use facts::{Decision, Facts};
 
 // The value of a table, or of three handles of the store.
-pub fn value(s: &[u32], source: &[u32], subject: Subject, f: Facts) -> Decision
-    requires { HasValue s.now source.now subject f }
-    ensures { result ≡ spec.subject_value s.now source.now subject (facts.state f) }
+pub fn value(s: &[u32], subject: Subject, f: Facts) -> Decision
+    requires { HasValue s.now subject f }
+    ensures { result ≡ spec.subject_value s.now subject.entry (facts.state f) }
 {
     match subject {
-        Subject::Table => table_value(source, f),
+        Subject::Table(rows) => table_value(rows, f),
         Subject::Choice {
             first,
             second,

@@ -10,9 +10,9 @@ use native.Mathlib.Omega.{arith}
 use native.Mathlib.Decide.{ℕ_discrete}
 use borrow.Author.Tests.{eq-eqb, ne_eqb, le-ltb}
 use lib.ListN.{length}
-use Rattle.std.specs.Prelude.{Ok, Err}
+use Rattle.std.specs.Prelude.{Result, Ok, Err}
+use Rattle.store.specs.declared.answer.OpenFault.{OpenFault}
 use Rattle.store.specs.declared.answer.OpenFault.TheVariants.{OutOfLimits, NotSimplified, NotAbove}
-use Rattle.store.specs.Opened.{Opened}
 use Rattle.store.specs.Layout.{field_count, question_count, used, list_words, question_in, question, leaves}
 use Rattle.store.specs.Open.{above_last, question_fault}
 use Rattle.store.specs.SoundParts.{Sound}
@@ -64,12 +64,12 @@ accepted_simplified : (order : Order) (limits : TermLimits) (words : List ℕ) (
 unfolding question_fault
 accepted_simplified order limits words k e =
     let q = question_in words k in
-    let rest : Opened = cond (above_last order words k) (Ok tt) (Err NotAbove) in
+    let rest : Result Unit OpenFault = cond (above_last order words k) (Ok tt) (Err NotAbove) in
     by_test (λ t. cond t (cond (is_simplified q) rest (Err NotSimplified)) (Err OutOfLimits) ≡ Ok tt → is_simplified q ≡ true)
     (allows limits q.left && allows limits q.right)
     (λ _. by_test (λ t. cond t rest (Err NotSimplified) ≡ Ok tt → t ≡ true) (is_simplified q)
-    (λ _ _. refl) (λ _ (r : ◌≡◌ {A = Opened} (Err NotSimplified) (Ok tt)). cc))
-    (λ _ (r : ◌≡◌ {A = Opened} (Err OutOfLimits) (Ok tt)). cc) e
+    (λ _ _. refl) (λ _ r. absurd (let z : ◌≡◌ {A = ℕ} 0 1 = cc in omega arith)))
+    (λ _ r. absurd (let z : ◌≡◌ {A = ℕ} 0 1 = cc in omega arith)) e
 
 module _ {limits : Limits} {s : List ℕ} (snd : Sound limits s) where
   abbrev within : TermLimits

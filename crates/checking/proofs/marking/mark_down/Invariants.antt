@@ -2,8 +2,5 @@
 use Rattle.checking.proofs.MarkWays.{Marking}
 use Rattle.checking.proofs.marking.mark_down.Given as goal
 
-abbrev pub invariant-loop-k : goal.invariant-loop-k
-invariant-loop-k l = Marking l.t l.root l.count l.marks l.k
-
-abbrev pub decreases-loop-k : goal.decreases-loop-k
-decreases-loop-k l = l.k
+abbrev pub invariant-loop-i : goal.invariant-loop-i
+invariant-loop-i l = Marking l.t l.root l.count l.marks l.i

@@ -1,13 +1,9 @@
-use borrow.Author.Rules.{rules}
-use Rattle.checking.proofs.EntryWays.{has_parts}
+use Rattle.std.proofs.Common.{rules}
 use Rattle.checking.proofs.NameWays.{naming_begins, naming_next, naming_ends}
 use Rattle.checking.proofs.naming.name_up.Goals as goal
 
 pub loop-i-init : goal.loop-i-init
 loop-i-init c = search (rules, naming_begins)
-
-pub fields_at-set-requires : goal.fields_at-set-requires
-fields_at-set-requires c = search (rules, has_parts)
 
 pub loop-i-preserved : goal.loop-i-preserved
 loop-i-preserved c = search (rules, naming_next)

@@ -1,10 +1,6 @@
 -- `name_up` meets its contract: each turn finds the fields named at or below one entry.
-use Prim.Native.Nat.{◌-◌}
 use Rattle.checking.proofs.NameWays.{Naming}
 use Rattle.checking.proofs.naming.name_up.Given as goal
 
 abbrev pub invariant-loop-i : goal.invariant-loop-i
 invariant-loop-i l = Naming l.t l.count l.sets l.i
-
-abbrev pub decreases-loop-i : goal.decreases-loop-i
-decreases-loop-i l = l.count - l.i

@@ -1,15 +1,11 @@
-use borrow.Author.Rules.{rules}
-use Rattle.checking.proofs.PassWays.{passed_none, passed_by, fails_by, all_passed}
+-- `all_terms_kept` meets its contract: the entries are tested one by one.
+use Rattle.std.proofs.Common.{rules, refl}
+use borrow.Author.Tests.{tests}
+use Rattle.store.proofs.Ranges.{all_tested}
+use Rattle.normal_form.specs.Check.{terms_kept}
+use Rattle.normal_form.specs.Limits.{table_limits}
+use Rattle.normal_form.specs.Table.{entry}
 use Rattle.checking.proofs.questions.all_terms_kept.Goals as goal
 
-pub loop-i-init : goal.loop-i-init
-loop-i-init c = search (rules, passed_none)
-
-pub loop-i-preserved : goal.loop-i-preserved
-loop-i-preserved c = search (rules, passed_by)
-
-pub returns-else-terms_kept : goal.returns-else-terms_kept
-returns-else-terms_kept c = search (rules, fails_by)
-
 pub returns : goal.returns
-returns c = search (rules, all_passed)
+returns c = all_tested (λ i. terms_kept table_limits (entry c.args.t.now i)) c.args.count c.all.ensures.ran refl (λ x b q k. search (rules, tests))

@@ -1,5 +1,6 @@
--- `draw` is safe and ends: the questions left fall.
+-- `draw` ends: each half has fewer ways.
+use Rattle.std.proofs.Common.{length}
 use Rattle.evaluator.proofs.drawing.+draw.Given as goal
 
 abbrev pub decreases-draw : goal.decreases-draw
-decreases-draw l = l.left
+decreases-draw l = length l.ways.now

@@ -6,14 +6,14 @@ use Rattle.inserting.proofs.adding.add.Goals as goal
 pub used-entries-requires : goal.used-entries-requires
 used-entries-requires c = search (rules, heading_in)
 
-pub walk_all-placed-requires : goal.walk_all-placed-requires
-walk_all-placed-requires c = search (rules, can_walk_all)
+pub walk_all-requires : goal.walk_all-requires
+walk_all-requires c = search (rules, can_walk_all)
 
 pub restore-requires : goal.restore-requires
 restore-requires c = search (rules, can_restore)
 
-pub returns-in-At : goal.returns-in-At
-returns-in-At c = search (rules, added_at)
+pub returns-in-Some : goal.returns-in-Some
+returns-in-Some c = search (rules, added_at)
 
-pub returns-in-Full : goal.returns-in-Full
-returns-in-Full c = search (rules, full_restored)
+pub returns-in-None : goal.returns-in-None
+returns-in-None c = search (rules, full_restored)

@@ -9,15 +9,18 @@ entries_start-requires c = search (rules, heading_within)
 pub used-requires : goal.used-requires
 used-requires c = search (rules, heading_within)
 
-pub load-requires : goal.load-requires
-load-requires c = search (rules, can_load)
+pub load-requires-clause-fits : goal.load-requires-clause-fits
+load-requires-clause-fits c = search (rules, can_load)
 
 pub question_count-questions-requires : goal.question_count-questions-requires
 question_count-questions-requires c = search (rules, heading_within)
 
-pub walk-requires : goal.walk-requires
-walk-requires c =
-    let can = c.requires in record { can_walk = can_walk can c.no_facts.result c.question_count-questions.ensures c.no_facts.ensures; in_index = in_index can c.entries_start.ensures c.used.ensures c.wide.ensures c.load.ensures }
+pub walk-requires-clause-can_walk : goal.walk-requires-clause-can_walk
+walk-requires-clause-can_walk c = can_walk c.requires c.no_facts.result c.question_count-questions.ensures c.no_facts.ensures
+
+pub walk-requires-clause-in_index : goal.walk-requires-clause-in_index
+walk-requires-clause-in_index c =
+    in_index c.requires c.entries_start.ensures c.used.ensures c.wide.ensures c.load.ensures.differ c.load.ensures.loaded
 
 pub returns : goal.returns
 returns c =

@@ -1,12 +1,9 @@
 use borrow.Author.Rules.{rules}
-use Rattle.walking.proofs.RowValues.{said_none, row_ready, said_next, said_all}
+use Rattle.walking.proofs.RowValues.{said_none, said_next, said_all}
 use Rattle.walking.proofs.rows.table_value.Goals as goal
 
 pub loop-i-init : goal.loop-i-init
-loop-i-init c = search (rules, said_none)
-
-pub row_value-requires : goal.row_value-requires
-row_value-requires c = search (rules, row_ready)
+loop-i-init c = said_none _ _
 
 pub loop-i-preserved : goal.loop-i-preserved
 loop-i-preserved c = search (rules, said_next)

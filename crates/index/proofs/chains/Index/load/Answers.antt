@@ -1,4 +1,3 @@
-use borrow.Author.Rules.{rules}
 use Rattle.index.proofs.IndexLaws.{loading_begins, loading_more, equal_found}
 use Rattle.index.proofs.chains.Index.load.Goals as goal
 

@@ -1,6 +1,0 @@
--- `way_of` is safe and ends: the loop's place stays within its bound.
-use Prim.Native.Nat.{◌≤◌, ◌<◌}
-use Rattle.evaluator.proofs.drawing.way_of.Given as goal
-
-abbrev pub invariant-loop-i : goal.invariant-loop-i
-invariant-loop-i l = (l.i ≤ l.i-end) × (l.way < 256)

@@ -1,6 +1,0 @@
--- `on_list` is safe and ends: the loop's place stays within its bound.
-use Prim.Native.Nat.{◌≤◌}
-use Rattle.evaluator.proofs.rules.on_list.Given as goal
-
-abbrev pub invariant-loop-i : goal.invariant-loop-i
-invariant-loop-i l = l.i ≤ l.i-end

@@ -1,6 +1,0 @@
--- `rule_truth` is safe and ends: the loop's place stays within its bound.
-use Prim.Native.Nat.{◌≤◌}
-use Rattle.evaluator.proofs.truth.rule_truth.Given as goal
-
-abbrev pub invariant-loop-r : goal.invariant-loop-r
-invariant-loop-r l = (l.r ≤ l.r-end) × (l.r-end ≤ 256)

@@ -1,0 +1,68 @@
+// Equations of two terms, each of which is one word: its field, and its steps times 32.
+ghost use Rattle.std.specs.Prelude.{◌≡◌, ◌+◌, ◌/◌, ◌<◌};
+
+use crate::limits::Limits;
+
+pub fn field(term: u32) -> u32
+    ensures { result < 32 }
+{
+    term % 32
+}
+
+pub fn steps(term: u32) -> u32
+    ensures { result ≡ term / 32 }
+{
+    term / 32
+}
+
+#[derive(Clone, Copy, Debug, PartialEq, Eq)]
+pub struct Equation {
+    pub left: u32,
+    pub right: u32,
+}
+
+impl From<[u32; 2]> for Equation {
+    fn from([left, right]: [u32; 2]) -> Equation {
+        Equation {
+            left: left,
+            right: right,
+        }
+    }
+}
+
+impl Equation {
+    pub fn turned_round(self) -> Equation
+        ensures left { result.left ≡ self.right }
+        ensures right { result.right ≡ self.left }
+    {
+        Equation {
+            left: self.right,
+            right: self.left,
+        }
+    }
+
+    // Whether a term has a field above n, or too many steps.
+    pub fn is_beyond(self, limits: Limits, n: u32) -> bool {
+        [self.left, self.right]
+            .iter()
+            .any(|term| is_beyond(limits, n, *term))
+    }
+
+    // Larger field left, no common steps, and no steps on the left of zero.
+    pub fn is_question(self) -> bool {
+        let right = field(self.right);
+        field(self.left) > right
+            && (steps(self.left) == 0 || (steps(self.right) == 0 && right != 0))
+    }
+
+    // The steps of both sides: a question's gap without its sign, as one of its sides has none.
+    pub fn gap(self) -> u32
+        ensures { result ≡ self.left / 32 + self.right / 32 }
+    {
+        steps(self.left) + steps(self.right)
+    }
+}
+
+pub fn is_beyond(limits: Limits, n: u32, term: u32) -> bool {
+    field(term) > n || steps(term) > limits.steps
+}
