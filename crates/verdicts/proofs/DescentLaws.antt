@@ -1,13 +1,13 @@
 -- A walk from a handle of a sound store goes on with a handle that is smaller and asks a later question, so the facts always have room for
 -- one more answer.
 use Prim.Native.Nat.{ℕ, suc, ◌+◌, ◌-◌, ◌≤◌, ◌<◌}
-use mathlib.Core.Path.{◌≡◌, sym, ◌∙◌, subst}
+use mathlib.Core.Path.{◌≡◌, refl, sym, subst}
 use mathlib.Core.Bool.{true}
 use mathlib.Core.List.{List}
 use native.Mathlib.Omega.{arith}
 use Rattle.facts.specs.declared.decision.Decision.TheVariants.{Open}
 use Rattle.facts.specs.declared.record.Facts.{Facts}
-use Rattle.facts.specs.declared.asking.Asked.{Asked}
+use Rattle.facts.specs.declared.asking.Asked.TheVariants as asked
 use Rattle.facts.specs.Needs.{Askable}
 use Rattle.facts.specs.Record.{state, most_noes, Small, AskedOf}
 use Rattle.facts.specs.State.{start, no_to, decide}
@@ -89,15 +89,15 @@ module _ {s : List ℕ} {handle : ℕ} {f : Facts} (w : CanDescend s handle f) (
       pub small_no : Small most_count q
       small_no = small_more few_steps small_asked
 
-      pub room_for_no : f.noes < most_noes
+      pub room_for_no : f.noes.count < most_noes
       room_for_no = omega (arith, w.holds.few, few_noes)
 
-      module _ {r : Asked} (a : AskedOf f q r) (o : r.decision ≡ Open) where
+      module _ {g : Facts} (a : AskedOf f q (asked.Open g)) where
         is_open : decide (state f) q ≡ Open
-        is_open = sym a.decision_is ∙ o
+        is_open = sym a.decision_is
 
         -- on with the facts of a yes
-        pub can_go_yes : {y : ℕ} → y ≡ e.yes → CanDescend s y r.yes
+        pub can_go_yes : {y : ℕ} → y ≡ e.yes → CanDescend s y g
         can_go_yes ey = record {
           limits = w.limits;
           fit = w.fit;
@@ -105,12 +105,12 @@ module _ {s : List ℕ} {handle : ℕ} {f : Facts} (w : CanDescend s handle f) (
           handle_in = omega (arith, kept.yes_below, i_in);
           most_no = w.most_no;
           few = w.few;
-          holds = holds_yes w.holds q small_asked is_open (a.yes_is o);
+          holds = holds_yes w.holds q small_asked is_open (a.yes_is g refl);
           asks_later = λ l. rw ey (omega (arith, later, kept.yes_later (omega arith)));
         }
 
         -- and of a no
-        pub can_go_no : {n : ℕ} → n ≡ e.no → {g : Facts} → state g ≡ no_to (state f) q → CanDescend s n g
+        pub can_go_no : {n : ℕ} → n ≡ e.no → {other : Facts} → state other ≡ no_to (state f) q → CanDescend s n other
         can_go_no en eg = record {
           limits = w.limits;
           fit = w.fit;

@@ -1,15 +1,15 @@
 -- What is reached from a handle on each way through the code: its tree is a leaf, or the node of its entry.
 use Prim.Native.Nat.{ℕ, ◌+◌, ◌-◌, ◌≤◌, ◌<◌}
 use mathlib.Core.Path.{◌≡◌, refl, sym, ap, ap₂, ◌∙◌}
-use mathlib.Core.Bool.{Bool, true, not, ◌||◌}
+use mathlib.Core.Bool.{true, not, ◌||◌}
 use mathlib.Core.List.{List}
 use native.Mathlib.Omega.{arith}
 use native.Mathlib.Decide.{ℕ_discrete}
 use lib.Dec.{eqb}
-use Rattle.facts.specs.declared.decision.Decision.TheVariants.{Always, Never, Open}
 use Rattle.facts.specs.declared.record.Facts.{Facts}
 use Rattle.facts.specs.declared.asking.Asked.{Asked}
-use Rattle.facts.specs.Record.{state, AskedOf}
+use Rattle.facts.specs.declared.asking.Asked.TheVariants as asked
+use Rattle.facts.specs.Record.{state, AskedOf, asked_decision}
 use Rattle.facts.specs.State.{no_to, yes_to, decide}
 use Rattle.store.specs.declared.entries.Entry.{Entry}
 use Rattle.store.specs.Layout.{question, entry, leaves}
@@ -40,42 +40,39 @@ module _ {s : List ℕ} {handle : ℕ} {f : Facts} (w : CanDescend s handle f) (
   abbrev i : ℕ
   i = handle - leaves
 
-  module _ {e : Entry} (ee : e ≡ entry s i) {k : ℕ} (ek : k ≡ e.question) {q : Equation} (eq : q ≡ question s k) {r : Asked} (a : AskedOf f q r) where
+  module _ {e : Entry} (ee : e ≡ entry s i) {k : ℕ} (ek : k ≡ e.question) {q : Equation} (eq : q ≡ question s k) where
     here : tree s handle ≡ node e.question (tree s e.yes) (tree s e.no)
     here =
         let d : i + leaves ≡ handle = omega arith in
         ap (tree s) (sym d) ∙ tree_node (sound_says w.limits s w.sound_in) i (omega (arith, w.handle_in))
         ∙ ap (λ (x : Entry). node x.question (tree s x.yes) (tree s x.no)) (sym ee)
 
-    decided : decide (state f) (question s e.question) ≡ r.decision
-    decided = sym (a.decision_is ∙ ap (decide (state f)) (eq ∙ ap (question s) ek))
+    decided : {r : Asked} → AskedOf f q r → decide (state f) (question s e.question) ≡ asked_decision r
+    decided a = sym (a.decision_is ∙ ap (decide (state f)) (eq ∙ ap (question s) ek))
 
-    pub always_reached : r.decision ≡ Always → {y : ℕ} → y ≡ e.yes → {l : Leaves} → l ≡ reached (question s) (tree s y) (state f)
+    pub always_reached : AskedOf f q asked.Always → {y : ℕ} → y ≡ e.yes → {l : Leaves} → l ≡ reached (question s) (tree s y) (state f)
         → l ≡ reached (question s) (tree s handle) (state f)
     unfolding reached
-    always_reached d ey el = rw (here, reached, decided, d) (el ∙ ap (λ y. reached (question s) (tree s y) (state f)) ey)
+    always_reached a ey el = rw (here, reached, decided a) (el ∙ ap (λ y. reached (question s) (tree s y) (state f)) ey)
 
-    pub never_reached : r.decision ≡ Never → {n : ℕ} → n ≡ e.no → {l : Leaves} → l ≡ reached (question s) (tree s n) (state f)
+    pub never_reached : AskedOf f q asked.Never → {n : ℕ} → n ≡ e.no → {l : Leaves} → l ≡ reached (question s) (tree s n) (state f)
         → l ≡ reached (question s) (tree s handle) (state f)
     unfolding reached
-    never_reached d en el = rw (here, reached, decided, d) (el ∙ ap (λ n. reached (question s) (tree s n) (state f)) en)
+    never_reached a en el = rw (here, reached, decided a) (el ∙ ap (λ n. reached (question s) (tree s n) (state f)) en)
 
-    module _ (d : r.decision ≡ Open) {y : ℕ} (ey : y ≡ e.yes) {l : Leaves} (el : l ≡ reached (question s) (tree s y) (state r.yes)) where
+    module _ {g : Facts} (a : AskedOf f q (asked.Open g)) {y : ℕ} (ey : y ≡ e.yes) {l : Leaves} (el : l ≡ reached (question s) (tree s y) (state g)) where
       yes_part : l ≡ reached (question s) (tree s e.yes) (yes_to (state f) (question s e.question))
-      yes_part = el ∙ ap₂ (λ y st. reached (question s) (tree s y) st) ey (a.yes_is d ∙ ap (yes_to (state f)) (eq ∙ ap (question s) ek))
+      yes_part = el ∙ ap₂ (λ y st. reached (question s) (tree s y) st) ey (a.yes_is g refl ∙ ap (yes_to (state f)) (eq ∙ ap (question s) ek))
 
       open_reached : {m : Leaves} → m ≡ reached (question s) (tree s e.no) (no_to (state f) (question s e.question))
           → either l m ≡ reached (question s) (tree s handle) (state f)
       unfolding reached
-      open_reached em = rw (here, reached, decided, d) (ap₂ either yes_part em)
+      open_reached em = rw (here, reached, decided a) (ap₂ either yes_part em)
 
       pub both_reached : l.never ≡ true → l.always ≡ true → l ≡ reached (question s) (tree s handle) (state f)
       both_reached n t = either_full l _ n t ∙ open_reached refl
 
-      pub either_reached : {n : ℕ} → n ≡ e.no → (g : Facts) → state g ≡ no_to (state f) q → {m : Leaves}
-          → m ≡ reached (question s) (tree s n) (state g) → {o : Leaves} → o ≡ either l m → o ≡ reached (question s) (tree s handle) (state f)
-      either_reached en g eg em eo =
+      pub either_reached : {n : ℕ} → n ≡ e.no → (other : Facts) → state other ≡ no_to (state f) q → {m : Leaves}
+          → m ≡ reached (question s) (tree s n) (state other) → {o : Leaves} → o ≡ either l m → o ≡ reached (question s) (tree s handle) (state f)
+      either_reached en other eg em eo =
           eo ∙ open_reached (em ∙ ap₂ (λ n st. reached (question s) (tree s n) st) en (eg ∙ ap (no_to (state f)) (eq ∙ ap (question s) ek)))
-
-pub either_parts : (a b : Leaves) {n t : Bool} → n ≡ (a.never || b.never) → t ≡ (a.always || b.always) → record { never = n; always = t } ≡ either a b
-either_parts a b en et = λ j. record { never = en j; always = et j }

@@ -12,7 +12,8 @@ use Rattle.store.specs.Meaning.{meaning}
 use Rattle.store.specs.Sound.{sound}
 use Rattle.store.specs.Tree.{tree}
 use Rattle.terms.specs.Meaning.{Valuation}
-use Rattle.verdicts.specs.declared.answer.Verdict.TheVariants.{Never, Always, Sometimes}
+use Rattle.std.specs.Prelude.{Ok}
+use Rattle.store.specs.declared.verdict.Verdict.TheVariants.{Never, Always, Sometimes}
 use Rattle.verdicts.specs.declared.leaves.Leaves.{Leaves}
 use Rattle.verdicts.specs.Leaves.{reached}
 use Rattle.verdicts.specs.Verdict.{by_leaves, verdict}
@@ -39,14 +40,14 @@ module _ (limits : Limits) (s : List ℕ) (handle : ℕ) (is : sound limits s �
   none_means : (b : Bool) → flag b l ≡ false → (v : Valuation) → meaning s handle v ≡ b → ⊥
   none_means b e v m = true≢false (sym (means_reached v) ∙ ap (λ c. flag c l) m ∙ e)
 
-  by_leaves_says : VerdictSays (by_leaves l) (meaning s handle)
-  by_leaves_says = by_test (λ a. VerdictSays (cond a (cond l.never Sometimes Always) Never) (meaning s handle)) l.always
-      (λ a. by_test (λ n. VerdictSays (cond n Sometimes Always) (meaning s handle)) l.never
+  by_leaves_says : VerdictSays (Ok (by_leaves l)) (meaning s handle)
+  by_leaves_says = by_test (λ a. VerdictSays (Ok (cond a (cond l.never Sometimes Always) Never)) (meaning s handle)) l.always
+      (λ a. by_test (λ n. VerdictSays (Ok (cond n Sometimes Always)) (meaning s handle)) l.never
       (λ n. (some_means true a, some_means false n))
       (λ n v. by_test (λ b. b ≡ true) (meaning s handle v) (λ _. refl) (λ m. absurd (none_means false n v m))))
       (λ a v. by_test (λ b. b ≡ false) (meaning s handle v) (λ m. absurd (none_means true a v m)) (λ _. refl))
 
-  verdict_is : verdict limits s handle ≡ by_leaves l
+  verdict_is : verdict limits s handle ≡ Ok (by_leaves l)
   unfolding verdict
   verdict_is = rw (is, lt-ltb handle (used s + leaves) h) refl
 

@@ -4,42 +4,41 @@ ghost use Rattle.terms.specs.Limits as limit;
 ghost use Rattle.terms.specs.Needs.{FitLimits};
 ghost use Rattle.verdicts.specs.Verdict as spec;
 
-use crate::answer::{Verdict, VerdictFault};
+use crate::answer::VerdictFault;
 use crate::leaves::{Leaves, leaves_from};
 use facts::no_facts;
 use soundness::is_sound;
-use store::{has_handle, wide};
+use store::{Verdict, has_handle, wide};
 use terms::{Limits, limits_of_store};
 
 // The verdict by the leaves that are reached.
 fn by_leaves(l: Leaves) -> Verdict
     ensures { result ≡ spec.by_leaves l }
 {
-    if l.always {
-        if l.never {
-            return Verdict::Sometimes;
-        }
-        return Verdict::Always;
+    match (l.always, l.never) {
+        (true, true) => Verdict::Sometimes,
+        (true, false) => Verdict::Always,
+        (false, _) => Verdict::Never,
     }
-    Verdict::Never
 }
 
 // The verdict of a handle within limits.
-pub fn verdict_within(limits: Limits, s: &[u32], handle: u32) -> Verdict
+#[tactic(auto, unfolding(crate::specs::Verdict::verdict))]
+pub fn verdict_within(limits: Limits, s: &[u32], handle: u32) -> Result<Verdict, VerdictFault>
     requires { FitLimits limits }
     ensures { result ≡ spec.verdict limits s.now handle }
 {
-    if is_sound(limits, s) {
-        if has_handle(s, handle) {
-            return by_leaves(leaves_from(s, wide(handle), no_facts()));
-        }
-        return Verdict::Refused(VerdictFault::NoHandle);
+    if !is_sound(limits, s) {
+        return Err(VerdictFault::NotSound);
     }
-    Verdict::Refused(VerdictFault::NotSound)
+    if !has_handle(s, handle) {
+        return Err(VerdictFault::NoHandle);
+    }
+    Ok(by_leaves(leaves_from(s, wide(handle), no_facts())))
 }
 
 // The verdict of a handle.
-pub fn verdict_of(s: &[u32], handle: u32) -> Verdict
+pub fn verdict_of(s: &[u32], handle: u32) -> Result<Verdict, VerdictFault>
     ensures { result ≡ spec.verdict limit.store_limits s.now handle }
 {
     verdict_within(limits_of_store(), s, handle)

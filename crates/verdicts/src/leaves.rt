@@ -1,29 +1,19 @@
 // Which leaves some sheet reaches from a handle.
-ghost use Rattle.std.specs.Prelude.{◌≡◌, ◌||◌};
+ghost use Rattle.std.specs.Prelude.{◌≡◌};
 ghost use Rattle.facts.specs.Record as facts;
 ghost use Rattle.store.specs.Layout as layout;
 ghost use Rattle.store.specs.Tree as tree;
 ghost use Rattle.verdicts.specs.Leaves as spec;
 ghost use Rattle.verdicts.specs.Needs.{CanDescend};
 
-use facts::{Decision, Facts, ask, no};
+use facts::{Asked, Facts, ask, no};
 use store::{LEAVES, entry_of, question_at, wide};
 
 // Whether some sheet that fits the facts reaches the leaf never, and whether some reaches the leaf always.
-#[derive(Clone, Copy)]
+#[derive(Clone, Copy, Debug, PartialEq, Eq)]
 pub struct Leaves {
     pub never: bool,
     pub always: bool,
-}
-
-// Whether either is so.
-fn or(a: bool, b: bool) -> bool
-    ensures { result ≡ (a || b) }
-{
-    if a {
-        return true;
-    }
-    b
 }
 
 // What either of two parts reaches.
@@ -31,8 +21,8 @@ fn either(a: Leaves, b: Leaves) -> Leaves
     ensures { result ≡ spec.either a b }
 {
     Leaves {
-        never: or(a.never, b.never),
-        always: or(a.always, b.always),
+        never: a.never || b.never,
+        always: a.always || b.always,
     }
 }
 
@@ -49,18 +39,13 @@ pub fn leaves_from(s: &[u32], handle: usize, f: Facts) -> Leaves
     }
     let e = entry_of(s, handle - LEAVES);
     let q = question_at(s, wide(e.question));
-    let asked = ask(f, q);
-    let d = asked.decision;
-    let g = asked.yes;
-    match d {
-        Decision::Always => leaves_from(s, wide(e.yes), f),
-        Decision::Never => leaves_from(s, wide(e.no), f),
-        Decision::Open => {
+    match ask(f, q) {
+        Asked::Always => leaves_from(s, wide(e.yes), f),
+        Asked::Never => leaves_from(s, wide(e.no), f),
+        Asked::Open(g) => {
             let a = leaves_from(s, wide(e.yes), g);
-            if a.never {
-                if a.always {
-                    return a;
-                }
+            if a.never && a.always {
+                return a;
             }
             either(a, leaves_from(s, wide(e.no), no(f, q)))
         }

@@ -2,16 +2,16 @@
 -- are those of the definition's shorter list, and each handle passed has its row.
 use Prim.Native.Nat.{ℕ, suc, ◌+◌, ◌-◌, ◌*◌, ◌≤◌, ◌<◌}
 use mathlib.Core.Path.{◌≡◌, refl, sym, ◌∙◌, ap}
-use mathlib.Core.Bool.{Bool, true, false, cond}
+use mathlib.Core.Bool.{Bool, true, false}
 use mathlib.Core.List.{List}
 use native.Mathlib.Omega.{arith}
 use native.Mathlib.Decide.{ℕ_discrete}
 use native.Mathlib.Numerals.{add-one}
 use lib.ListN.{length, get_or, set, replicate, length-set, length-replicate}
 use lib.Seq.{get_or-set_same, get_or-set_other}
-use Rattle.store.specs.declared.entries.Entry.{Entry}
-use Rattle.store.specs.Layout.{entry, leaves, used}
-use Rattle.writing.specs.Needs.{most_handles, Handled, HasParts, Marked, Numbered}
+use Rattle.std.specs.Int.{from_bool}
+use Rattle.store.specs.Layout.{leaves, used}
+use Rattle.writing.specs.Needs.{most_handles, Handled, HasParts, Marked}
 use Rattle.writing.specs.WriteBack.{mark_parts, marks_down, reachable, marked_before, row_of}
 use Rattle.store.proofs.SoundFacts.{sound_says, used_fits, used_few}
 use Rattle.store.proofs.SoundTree.{falling}
@@ -19,23 +19,6 @@ use Rattle.terms.proofs.Cases.{by_test}
 use Rattle.terms.proofs.OneValue.{all_alike}
 use Rattle.writing.proofs.Marks.{parts_length, down_alike, Alike, first_marks, first_length}
 use Rattle.writing.proofs.MarkedRows.{before_marked, before_unmarked, before_few, row_of_leaf, row_of_entry}
-
-module _ (s : List ℕ) (i : ℕ) (marks : List Bool) where
-  pub marks_both : {e : Entry} {y n : ℕ} → get_or marks (i + leaves) false ≡ true → e ≡ entry s i → y ≡ e.yes → n ≡ e.no
-      → set (set marks y true) n true ≡ mark_parts s i marks
-  unfolding mark_parts
-  marks_both t ee ey en = rw (t, ey, en, ee)
-
-  module _ (parts : HasParts s i) {e : Entry} (ee : e ≡ entry s i) where
-    pub yes_marked : {y : ℕ} → y ≡ e.yes → y < most_handles
-    yes_marked ey = omega (arith, ey, ap (λ (x : Entry). x.yes) ee, parts.yes_below, parts.own_in)
-
-    pub no_marked : {n : ℕ} → n ≡ e.no → n < most_handles
-    no_marked en = omega (arith, en, ap (λ (x : Entry). x.no) ee, parts.no_below, parts.own_in)
-
-  pub marks_none : get_or marks (i + leaves) false ≡ false → marks ≡ mark_parts s i marks
-  unfolding mark_parts
-  marks_none e = rw e refl
 
 -- ---- from the handle down
 -- what is left of the pass, from the handle before h on, gives what the whole pass over the first flags gives
@@ -105,9 +88,6 @@ module _ {s : List ℕ} {handle : ℕ} (k : Handled s handle) where
         }
 
 -- ---- rows
-pub counts_one : (count : ℕ) {flag : Bool} → flag ≡ true → count + 1 ≡ cond flag (suc count) count
-counts_one count e = rw e (omega arith)
-
 -- the handles before h have their rows, and so many entries before it are marked
 pub record Numbering (marks : List Bool) (handle : ℕ) (rows : List ℕ) (count h : ℕ) : Type 0 where
   pub low : leaves ≤ h
@@ -135,8 +115,8 @@ module _ (marks : List Bool) (handle : ℕ) (rows : List ℕ) where
   }
 
   module _ {count h : ℕ} (n : Numbering marks handle rows count h) where
-    pub numbering_next : {more : ℕ} → handle < most_handles → h ≤ handle → more ≡ cond (get_or marks h false) (suc count) count
-        → Numbering marks handle (set rows h (3 + 2 * count)) more (h + 1)
+    pub numbering_next : {more : ℕ} → handle < most_handles → h ≤ handle → more ≡ from_bool (get_or marks h false)
+        → Numbering marks handle (set rows h (3 + 2 * count)) (count + more) (h + 1)
     numbering_next {more} b l e = record {
       low = omega (arith, n.low);
       up_to = omega (arith, n.low);
@@ -161,12 +141,7 @@ module _ (marks : List Bool) (handle : ℕ) (rows : List ℕ) where
         step : h + 1 - leaves ≡ suc (h - leaves)
         step = omega (arith, n.low)
 
-        counted : more ≡ marked_before marks (h + 1 - leaves)
-        counted = e ∙ by_test (λ t. get_or marks h false ≡ t → cond t (suc count) count ≡ marked_before marks (h + 1 - leaves)) (get_or marks h false)
+        counted : count + more ≡ marked_before marks (h + 1 - leaves)
+        counted = ap (λ x. count + x) e ∙ by_test (λ t. get_or marks h false ≡ t → count + from_bool t ≡ marked_before marks (h + 1 - leaves)) (get_or marks h false)
             (λ _ t. omega (arith, n.count_is, ap (marked_before marks) step, before_marked marks (h - leaves) (flag ∙ t)))
             (λ _ t. omega (arith, n.count_is, ap (marked_before marks) step, before_unmarked marks (h - leaves) (flag ∙ t))) refl
-
-    pub numbering_ends : handle < h → Numbered marks handle rows count
-    numbering_ends l =
-        let d : h - leaves ≡ suc handle - leaves = omega (arith, n.up_to) in
-        record { size = n.size; rows_are = λ g u. n.rows_are g (omega arith); count_is = n.count_is ∙ ap (marked_before marks) d }

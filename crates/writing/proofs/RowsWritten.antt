@@ -9,6 +9,7 @@ use native.Mathlib.Omega.{arith}
 use lib.ListN.{length, get_or, take, drop, take-append-drop}
 use Rattle.store.specs.Layout.{entry, leaves}
 use Rattle.tables.specs.Rows.{row_length}
+use Rattle.writing.specs.declared.marking.Reach.{Reach}
 use Rattle.writing.specs.Needs.{reachable_rows, put, entry_words, entry_put, CanWrite, Writable}
 use Rattle.writing.specs.WriteBack.{reachable, marked_before, entry_rows, entries_rows, written_rows}
 use Rattle.store.specs.SoundParts.{EntryKept}
@@ -20,7 +21,7 @@ use Rattle.writing.proofs.PutWords.{put_length, put_put}
 use Rattle.writing.proofs.WrittenRows.{leaf_rows, rows_of_never, rows_of_other, count_of_other}
 
 -- ---- one entry more
-module _ {s : List ℕ} {handle : ℕ} {marks : List Bool} {rows : List ℕ} {room : ℕ} (w : Writable s handle marks rows room) where
+module _ {s : List ℕ} {handle : ℕ} {r : Reach} {room : ℕ} (w : Writable s handle r room) where
   abbrev reach : List Bool
   reach = reachable s handle
 
@@ -33,20 +34,20 @@ module _ {s : List ℕ} {handle : ℕ} {marks : List Bool} {rows : List ℕ} {ro
     kept : EntryKept s i
     kept = let k = w.handled in (sound_says k.limits s k.sound_in).entry_kept i (omega (arith, k.handle_in))
 
-    flag_is : get_or marks (i + leaves) false ≡ get_or reach (i + leaves) false
+    flag_is : get_or r.marks (i + leaves) false ≡ get_or reach (i + leaves) false
     flag_is = w.marks_are (i + leaves) (omega arith)
 
-    row_is : get_or rows (i + leaves) 0 ≡ 3 + 2 * marked_before reach i
+    row_is : get_or r.rows (i + leaves) 0 ≡ 3 + 2 * marked_before reach i
     row_is = w.rows_are (i + leaves) (omega arith) ∙ row_of_entry reach i
 
     -- its rows come right after those of the leaves and of the entries before it
-    place : row_length * (get_or rows (i + leaves) 0 - 1) ≡ 8 + length (entries_rows s reach i)
+    place : row_length * (get_or r.rows (i + leaves) 0 - 1) ≡ 8 + length (entries_rows s reach i)
     place = omega (arith, row_is, entries_length reach s i)
 
-    marked_room : get_or marks (i + leaves) false ≡ true → row_length * get_or rows (i + leaves) 0 + row_length ≤ room
+    marked_room : get_or r.marks (i + leaves) false ≡ true → row_length * get_or r.rows (i + leaves) 0 + row_length ≤ room
     marked_room m = omega (arith, row_is, rows_fit (omega arith) (suc i) (omega arith), entries_length reach s (suc i), before_marked reach i (sym flag_is ∙ m))
 
-    can_write : CanWrite s marks rows i room
+    can_write : CanWrite s r i room
     can_write =
         let k = w.handled in
         record {
@@ -57,28 +58,28 @@ module _ {s : List ℕ} {handle : ℕ} {marks : List Bool} {rows : List ℕ} {ro
         }
 
     -- the words of the two rows are the definition's
-    words_are : entry_words s rows i ≡ entry_rows s reach i
+    words_are : entry_words s r.rows i ≡ entry_rows s reach i
     unfolding entry_rows
     words_are =
         let e = entry s i in
-        let choice : get_or rows (i + leaves) 0 - 1 ≡ 2 + 2 * marked_before reach i = omega (arith, row_is) in
+        let choice : get_or r.rows (i + leaves) 0 - 1 ≡ 2 + 2 * marked_before reach i = omega (arith, row_is) in
         rw (choice, w.rows_are e.yes (omega (arith, kept.yes_below)), w.rows_are e.no (omega (arith, kept.no_below))) refl
 
     module _ (start out : List ℕ) (size : length start ≡ room) (before : out ≡ put start 8 (entries_rows s reach i)) where
-      marked_next : get_or marks (i + leaves) false ≡ true
-          → put out (row_length * (get_or rows (i + leaves) 0 - 1)) (entry_words s rows i) ≡ put start 8 (entries_rows s reach (suc i))
+      marked_next : get_or r.marks (i + leaves) false ≡ true
+          → put out (row_length * (get_or r.rows (i + leaves) 0 - 1)) (entry_words s r.rows i) ≡ put start 8 (entries_rows s reach (suc i))
       marked_next m =
-          let at = row_length * (get_or rows (i + leaves) 0 - 1) in
+          let at = row_length * (get_or r.rows (i + leaves) 0 - 1) in
           ap₂ (λ x y. put x at y) before words_are
           ∙ put_put start 8 (entries_rows s reach i) at (entry_rows s reach i) place (omega (arith, rows_fit (omega arith) i (omega arith)))
           ∙ sym (ap (put start 8) (marked_rows reach s i (sym flag_is ∙ m)))
 
-      unmarked_next : get_or marks (i + leaves) false ≡ false → out ≡ put start 8 (entries_rows s reach (suc i))
+      unmarked_next : get_or r.marks (i + leaves) false ≡ false → out ≡ put start 8 (entries_rows s reach (suc i))
       unmarked_next m = before ∙ sym (ap (put start 8) (unmarked_rows reach s i (sym flag_is ∙ m) ∙ append-nil (entries_rows s reach i)))
 
-      entry_next : entry_put s marks rows i out ≡ put start 8 (entries_rows s reach (suc i))
-      entry_next = by_test (λ t. cond t (put out (row_length * (get_or rows (i + leaves) 0 - 1)) (entry_words s rows i)) out ≡ put start 8 (entries_rows s reach (suc i)))
-          (get_or marks (i + leaves) false) marked_next unmarked_next
+      entry_next : entry_put s r i out ≡ put start 8 (entries_rows s reach (suc i))
+      entry_next = by_test (λ t. cond t (put out (row_length * (get_or r.rows (i + leaves) 0 - 1)) (entry_words s r.rows i)) out ≡ put start 8 (entries_rows s reach (suc i)))
+          (get_or r.marks (i + leaves) false) marked_next unmarked_next
 
 -- ---- all entries
 -- the rows of the entries before h are written
@@ -88,7 +89,7 @@ pub record Writing (s : List ℕ) (handle : ℕ) (start out : List ℕ) (h : ℕ
   pub size : length out ≡ length start
   pub written : out ≡ put start 8 (entries_rows s (reachable s handle) (h - leaves))
 
-module _ {s : List ℕ} {handle : ℕ} {marks : List Bool} {rows start : List ℕ} (w : Writable s handle marks rows (length start)) where
+module _ {s : List ℕ} {handle : ℕ} {r : Reach} {start : List ℕ} (w : Writable s handle r (length start)) where
   pub writing_begins : 1 ≤ handle → Writing s handle start start leaves
   unfolding entries_rows
   writing_begins l = record {
@@ -99,10 +100,10 @@ module _ {s : List ℕ} {handle : ℕ} {marks : List Bool} {rows start : List �
   }
 
   module _ {h : ℕ} {out : List ℕ} (d : Writing s handle start out h) where
-    pub writing_entry : h ≤ handle → CanWrite s marks rows (h - leaves) (length out)
+    pub writing_entry : h ≤ handle → CanWrite s r (h - leaves) (length out)
     writing_entry l = rw d.size (can_write w (h - leaves) (omega (arith, d.low)))
 
-    pub writing_next : {next : List ℕ} → h ≤ handle → next ≡ entry_put s marks rows (h - leaves) out → Writing s handle start next (h + 1)
+    pub writing_next : {next : List ℕ} → h ≤ handle → next ≡ entry_put s r (h - leaves) out → Writing s handle start next (h + 1)
     writing_next {next} l e = record {
       low = omega (arith, d.low);
       up_to = omega arith;
@@ -117,13 +118,8 @@ module _ {s : List ℕ} {handle : ℕ} {marks : List Bool} {rows start : List �
         done : next ≡ put start 8 (entries_rows s (reachable s handle) (h + 1 - leaves))
         done = e ∙ entry_next w (h - leaves) (omega (arith, d.low)) start out refl d.written ∙ ap (λ k. put start 8 (entries_rows s (reachable s handle) k)) step
 
-    pub writing_ends : handle < h → out ≡ put start 8 (reachable_rows s handle)
-    writing_ends l =
-        let e : h - leaves ≡ suc handle - leaves = omega (arith, d.up_to) in
-        d.written ∙ ap (λ k. put start 8 (entries_rows s (reachable s handle) k)) e
-
 -- ---- all rows
-module _ {s : List ℕ} {handle : ℕ} {marks : List Bool} {rows : List ℕ} (out : List ℕ) (w : Writable s handle marks rows (length out)) where
+module _ {s : List ℕ} {handle : ℕ} {r : Reach} (out : List ℕ) (w : Writable s handle r (length out)) where
   pub never_room : row_length * 0 + row_length ≤ length out
   never_room = by_eq
       (λ t. row_length * cond t 1 (2 + 2 * marked_before (reachable s handle) (suc handle - leaves)) ≤ length out → row_length * 0 + row_length ≤ length out) handle 0
@@ -134,9 +130,6 @@ module _ {s : List ℕ} {handle : ℕ} {marks : List Bool} {rows : List ℕ} (ou
     wrote_never z = e1 ∙ sym (ap (put out 0) (rows_of_never s handle z))
 
     module _ (n : handle ≢ 0) where
-      pub always_room : row_length * 1 + row_length ≤ length one
-      always_room = omega (arith, w.room_left, count_of_other s handle n, ap length e1, put_length out 0 (0 ∷ 0 ∷ 0 ∷ 0 ∷ []) never_room)
-
       module _ {two : List ℕ} (e2 : two ≡ put one (row_length * 1) (1 ∷ 0 ∷ 0 ∷ 0 ∷ [])) where
         leaves_written : two ≡ put out 0 leaf_rows
         leaves_written = e2 ∙ ap (λ x. put x 4 (1 ∷ 0 ∷ 0 ∷ 0 ∷ [])) e1 ∙ put_put out 0 (0 ∷ 0 ∷ 0 ∷ 0 ∷ []) 4 (1 ∷ 0 ∷ 0 ∷ 0 ∷ []) (omega arith) never_room
@@ -144,7 +137,7 @@ module _ {s : List ℕ} {handle : ℕ} {marks : List Bool} {rows : List ℕ} (ou
         leaves_room : 8 ≤ length out
         leaves_room = omega (arith, w.room_left, count_of_other s handle n)
 
-        pub still_writable : Writable s handle marks rows (length two)
+        pub still_writable : Writable s handle r (length two)
         still_writable = rw (ap length leaves_written ∙ put_length out 0 leaf_rows leaves_room) w
 
         pub wrote_rows : {three : List ℕ} → three ≡ put two 8 (reachable_rows s handle)

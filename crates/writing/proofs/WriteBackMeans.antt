@@ -16,11 +16,9 @@ use Rattle.store.specs.Sound.{sound}
 use Rattle.tables.specs.Rows.{row_length, most_rows, rule_meaning}
 use Rattle.terms.specs.declared.limits.Limits.{Limits}
 use Rattle.terms.specs.Meaning.{Valuation}
-use Rattle.writing.specs.declared.answer.WriteFault.{WriteFault}
 use Rattle.writing.specs.declared.answer.WriteFault.TheVariants.{NotSound, NoHandle, TooManyRows, TooShort}
-use Rattle.writing.specs.declared.answer.Written.{Written}
-use Rattle.writing.specs.declared.answer.Written.TheVariants.{Rows, Refused}
-use Rattle.writing.specs.WriteBack.{written_rows, written_count, rows_written, write_back, written_result}
+use Rattle.std.specs.Prelude.{Ok, Err}
+use Rattle.writing.specs.WriteBack.{written_rows, written_count, rows_written, write_back, written_result, Written}
 use Rattle.store.proofs.SoundFacts.{sound_says}
 use Rattle.terms.proofs.Cases.{by_test, by_lt}
 use Rattle.writing.proofs.WrittenMeans.{written_means}
@@ -40,28 +38,25 @@ pub record WrittenBack (limits : Limits) (s : List ℕ) (h k : ℕ) (words : Lis
   pub rows_first : take (row_length * k) words ≡ written_rows s h
 
 module _ (limits : Limits) (s : List ℕ) (h : ℕ) (out : List ℕ) (k : ℕ) where
-  not_rows : {f : WriteFault} → Refused f ≡ Rows k → ⊥
-  not_rows e = let z : ◌≡◌ {A = ℕ} 0 1 = cc in omega arith
-
-  rows_fit : (rows_written s h out).answer ≡ Rows k → RowsFit s h out k (rows_written s h out).words
+  rows_fit : (rows_written s h out).answer ≡ Ok k → RowsFit s h out k (rows_written s h out).words
   unfolding rows_written
   rows_fit =
-      let last = outcome (Rows (written_count s h)) (written_rows s h ++ drop (row_length * written_count s h) out) in
+      let last = outcome (Ok (written_count s h)) (written_rows s h ++ drop (row_length * written_count s h) out) in
       let short = ltb (length out) (row_length * written_count s h) in
-      by_lt (λ t. let o = cond t (outcome (Refused TooManyRows) out) (cond short (outcome (Refused TooShort) out) last) in o.answer ≡ Rows k → RowsFit s h out k o.words)
-      most_rows (written_count s h) (λ _ e. absurd (not_rows e))
-      (λ l. by_test (λ t. let o = cond t (outcome (Refused TooShort) out) last in o.answer ≡ Rows k → RowsFit s h out k o.words) short
-      (λ _ e. absurd (not_rows e)) (λ _ e. record { few = l; count_is = sym (ap written_result e); words_are = refl }))
+      by_lt (λ t. let o = cond t (outcome (Err TooManyRows) out) (cond short (outcome (Err TooShort) out) last) in o.answer ≡ Ok k → RowsFit s h out k o.words)
+      most_rows (written_count s h) (λ _ e. cc)
+      (λ l. by_test (λ t. let o = cond t (outcome (Err TooShort) out) last in o.answer ≡ Ok k → RowsFit s h out k o.words) short
+      (λ _ e. cc) (λ _ e. record { few = l; count_is = sym (ap written_result e); words_are = refl }))
 
   -- what is to be shown of an outcome
   abbrev Shown : Outcome Written → Type 0
-  Shown o = o.answer ≡ Rows k → WrittenBack limits s h k o.words
+  Shown o = o.answer ≡ Ok k → WrittenBack limits s h k o.words
 
   pub written_back : Shown (write_back limits s h out)
   unfolding write_back
   written_back =
-      by_test (λ t. Shown (cond t (cond (is_handle s h) (rows_written s h out) (outcome (Refused NoHandle) out)) (outcome (Refused NotSound) out))) (sound limits s)
-      (λ is. by_test (λ t. Shown (cond t (rows_written s h out) (outcome (Refused NoHandle) out))) (is_handle s h)
+      by_test (λ t. Shown (cond t (cond (is_handle s h) (rows_written s h out) (outcome (Err NoHandle) out)) (outcome (Err NotSound) out))) (sound limits s)
+      (λ is. by_test (λ t. Shown (cond t (rows_written s h out) (outcome (Err NoHandle) out))) (is_handle s h)
       (λ u e.
       let fit = rows_fit e in
       record {
@@ -70,9 +65,9 @@ module _ (limits : Limits) (s : List ℕ) (h : ℕ) (out : List ℕ) (k : ℕ) w
         few = fit.few;
         rows_first = ap (take (row_length * k)) fit.words_are ∙ take_at (written_rows s h) _ (row_length * k) (omega (arith, written_length s h, fit.count_is));
       })
-      (λ _ e. absurd (not_rows e))) (λ _ e. absurd (not_rows e))
+      (λ _ e. cc)) (λ _ e. cc)
 
-  pub write_back_means : (write_back limits s h out).answer ≡ Rows k
+  pub write_back_means : (write_back limits s h out).answer ≡ Ok k
       → (v : Valuation) → rule_meaning (take (row_length * k) (write_back limits s h out).words) v ≡ meaning s h v
   write_back_means e v =
       let w = written_back e in

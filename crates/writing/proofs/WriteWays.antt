@@ -1,11 +1,10 @@
 -- Writing back on each way through the code: the rows are counted as the definition counts them, and its tests decide the definition's.
 use Prim.Native.Nat.{ℕ, suc, ◌+◌, ◌-◌, ◌*◌, ◌≤◌, ◌<◌}
-use mathlib.Core.Path.{◌≡◌, refl, sym, ◌∙◌, ap}
-use mathlib.Core.Logic.{◌≢◌}
-use mathlib.Core.Bool.{Bool, true, false, cond}
+use mathlib.Core.Path.{◌≡◌, refl, sym, ◌∙◌, ap, subst}
+use mathlib.Core.Bool.{Bool, true, cond}
 use mathlib.Core.List.{List, ◌++◌}
 use native.Mathlib.Omega.{arith}
-use borrow.Author.Tests.{eq-eqb, ne_eqb, lt-ltb, le-ltb, ltb-true}
+use borrow.Author.Tests.{lt-ltb, le-ltb, ltb-true}
 use lib.Dec.{eqb}
 use lib.ListN.{length, drop}
 use Rattle.store.specs.Layout.{heading_length, used, leaves, is_handle}
@@ -15,76 +14,57 @@ use Rattle.tables.specs.Rows.{row_length, most_rows}
 use Rattle.terms.specs.declared.limits.Limits.{Limits}
 use Rattle.terms.specs.Limits.{most_entries}
 use Rattle.terms.specs.Needs.{FitLimits}
-use Rattle.writing.specs.declared.answer.WriteFault.TheVariants.{NotSound, NoHandle, TooManyRows, TooShort}
-use Rattle.writing.specs.declared.answer.Written.{Written}
-use Rattle.writing.specs.declared.answer.Written.TheVariants.{Rows, Refused}
+use Rattle.writing.specs.declared.answer.WriteFault.TheVariants.{TooManyRows, TooShort}
+use Rattle.std.specs.Prelude.{Ok, Err}
+use Rattle.writing.specs.declared.marking.Reach.{Reach}
 use Rattle.writing.specs.Needs.{Handled, Marked, Numbered, put, Writable}
-use Rattle.writing.specs.WriteBack.{reachable, written_rows, written_count, rows_written, write_back}
+use Rattle.writing.specs.WriteBack.{reachable, written_rows, written_count, rows_written}
 use Rattle.store.proofs.SoundFacts.{sound_says}
 use Rattle.writing.proofs.MarkWays.{handle_fits}
 use Rattle.writing.proofs.MarkedRows.{before_few, count_alike, row_alike}
 use Rattle.writing.proofs.WrittenRows.{written_length}
 
-module _ {handle : ℕ} (entries : ℕ) where
-  pub one_row : handle ≡ 0 → 1 ≡ cond (eqb handle 0) 1 (2 + 2 * entries)
-  one_row e = rw (eq-eqb handle 0 e) refl
+module _ {s : List ℕ} {handle : ℕ} {marks : List Bool} {r : Reach} {n : ℕ} (k : Handled s handle) (marked : Marked s handle marks) (kept : r.marks ≡ marks) (b : Numbered r.marks handle r.rows n) where
+  m : Marked s handle r.marks
+  m = subst (Marked s handle) (sym kept) marked
 
-  pub more_rows : handle ≢ 0 → 2 + 2 * entries ≡ cond (eqb handle 0) 1 (2 + 2 * entries)
-  more_rows n = rw (ne_eqb handle 0 n) refl
-
-module _ {s : List ℕ} {handle : ℕ} {marks : List Bool} {rows : List ℕ} {n : ℕ} (k : Handled s handle) (m : Marked s handle marks) (b : Numbered marks handle rows n) where
   pub few_marked : n ≤ most_entries
-  few_marked = omega (arith, b.count_is, before_few marks (suc handle - leaves), handle_fits k)
+  few_marked = omega (arith, b.count_is, before_few r.marks (suc handle - leaves), handle_fits k)
 
   module _ (out : List ℕ) {count : ℕ} (e : count ≡ cond (eqb handle 0) 1 (2 + 2 * n)) where
     count_right : count ≡ written_count s handle
-    count_right = e ∙ ap (λ x. cond (eqb handle 0) 1 (2 + 2 * x)) (b.count_is ∙ count_alike marks (reachable s handle) (suc handle) m.marks_are)
+    count_right = e ∙ ap (λ x. cond (eqb handle 0) 1 (2 + 2 * x)) (b.count_is ∙ count_alike r.marks (reachable s handle) (suc handle) m.marks_are)
 
     module _ {c : ℕ} (ec : c ≡ count) where
-      pub too_many : most_rows < c → outcome (Refused TooManyRows) out ≡ rows_written s handle out
+      pub too_many : most_rows < c → outcome (Err TooManyRows) out ≡ rows_written s handle out
       unfolding rows_written
       too_many l = rw (← count_right, lt-ltb most_rows count (omega arith))
 
     module _ {c : ℕ} (ec : c ≡ count) (few : c ≤ most_rows) where
-      pub too_short : length out < row_length * c → outcome (Refused TooShort) out ≡ rows_written s handle out
+      pub too_short : length out < row_length * c → outcome (Err TooShort) out ≡ rows_written s handle out
       unfolding rows_written
       too_short l = rw (← count_right, le-ltb most_rows count (omega arith), lt-ltb (length out) (row_length * count) (omega arith)) refl
 
       module _ (l : row_length * c ≤ length out) where
-        pub all_writable : Writable s handle marks rows (length out)
+        pub all_writable : Writable s handle r (length out)
         all_writable = record {
           handled = k;
           handle_fits = handle_fits k;
           marks_are = m.marks_are;
-          rows_are = λ g h. b.rows_are g h ∙ row_alike marks (reachable s handle) (suc handle) m.marks_are g h;
+          rows_are = λ g h. b.rows_are g h ∙ row_alike r.marks (reachable s handle) (suc handle) m.marks_are g h;
           room_left = omega (arith, count_right);
         }
 
-        pub all_written : {last : List ℕ} → last ≡ put out 0 (written_rows s handle) → outcome (Rows count) last ≡ rows_written s handle out
+        pub all_written : {last : List ℕ} → last ≡ put out 0 (written_rows s handle) → outcome (Ok count) last ≡ rows_written s handle out
         unfolding rows_written
         all_written d =
             let z : 0 + length (written_rows s handle) ≡ row_length * count = omega (arith, written_length s handle, count_right) in
             rw (← count_right, le-ltb most_rows count (omega arith), le-ltb (length out) (row_length * count) (omega arith))
-            (ap (outcome (Rows count)) (d ∙ ap (λ x. written_rows s handle ++ drop x out) z))
+            (ap (outcome (Ok count)) (d ∙ ap (λ x. written_rows s handle ++ drop x out) z))
 
-module _ (limits : Limits) (s out : List ℕ) {b : Bool} (eb : b ≡ sound limits s) (h : ℕ) where
-  pub not_sound : b ≡ false → outcome (Refused NotSound) out ≡ write_back limits s h out
-  unfolding write_back
-  not_sound t = rw (← eb, t)
+module _ (limits : Limits) (s : List ℕ) {b : Bool} (eb : b ≡ sound limits s) (t : b ≡ true) where
+  pub heading_in : heading_length ≤ length s
+  heading_in = omega (arith, (sound_says limits s (sym eb ∙ t)).list_in)
 
-  module _ (t : b ≡ true) where
-    pub heading_in : heading_length ≤ length s
-    heading_in = omega (arith, (sound_says limits s (sym eb ∙ t)).list_in)
-
-    module _ {a : Bool} (ea : a ≡ is_handle s h) where
-      pub no_handle : a ≡ false → outcome (Refused NoHandle) out ≡ write_back limits s h out
-      unfolding write_back
-      no_handle f = rw (← eb, t, ← ea, f)
-
-      module _ (f : a ≡ true) {g : ℕ} (eg : g ≡ h) where
-        pub is_handled : FitLimits limits → Handled s g
-        is_handled fit = rw eg (record { limits = limits; sound_in = sym eb ∙ t; fit = fit; handle_in = ltb-true h (used s + leaves) (sym ea ∙ f) })
-
-        pub is_written : {r : Written} {last : List ℕ} → outcome r last ≡ rows_written s g out → outcome r last ≡ write_back limits s h out
-        unfolding write_back
-        is_written d = rw (← eb, t, ← ea, f, ← eg) d
+  pub is_handled : {h g : ℕ} {a : Bool} → FitLimits limits → a ≡ is_handle s h → a ≡ true → g ≡ h → Handled s g
+  is_handled {h} fit ea f eg = rw eg (record { limits = limits; sound_in = sym eb ∙ t; fit = fit; handle_in = ltb-true h (used s + leaves) (sym ea ∙ f) })

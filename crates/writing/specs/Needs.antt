@@ -7,6 +7,7 @@ use Rattle.tables.specs.Rows.{row_length}
 use Rattle.terms.specs.declared.limits.Limits.{Limits}
 use Rattle.terms.specs.Limits.{most_entries}
 use Rattle.terms.specs.Needs.{FitLimits}
+use Rattle.writing.specs.declared.marking.Reach.{Reach}
 use Rattle.writing.specs.WriteBack.{reachable, marked_before, row_of, entries_rows, written_count}
 
 -- the handles of the leaves, and of as many entries as an index holds
@@ -58,21 +59,21 @@ entry_words s rows i =
     2 ∷ get_or s at 0 ∷ get_or s (at + 1) 0 ∷ 0 ∷ 5 ∷ (get_or rows (i + leaves) 0 - 1) ∷ get_or rows e.yes 0 ∷ get_or rows e.no 0 ∷ []
 
 -- the words with these written in their place, if the entry is marked
-abbrev pub entry_put : List ℕ → List Bool → List ℕ → ℕ → List ℕ → List ℕ
-entry_put s marks rows i out =
-    cond (get_or marks (i + leaves) false) (put out (row_length * (get_or rows (i + leaves) 0 - 1)) (entry_words s rows i)) out
+abbrev pub entry_put : List ℕ → Reach → ℕ → List ℕ → List ℕ
+entry_put s r i out =
+    cond (get_or r.marks (i + leaves) false) (put out (row_length * (get_or r.rows (i + leaves) 0 - 1)) (entry_words s r.rows i)) out
 
 -- the i-th entry has its words, and, if it is marked, room for its rows
-pub record CanWrite (s : List ℕ) (marks : List Bool) (rows : List ℕ) (i room : ℕ) : Type 0 where
+pub record CanWrite (s : List ℕ) (r : Reach) (i room : ℕ) : Type 0 where
   pub parts : HasParts s i
   pub asks : HasQuestion s (entry s i).question
-  pub row_later : 1 ≤ get_or rows (i + leaves) 0
-  pub room_left : get_or marks (i + leaves) false ≡ true → row_length * get_or rows (i + leaves) 0 + row_length ≤ room
+  pub row_later : 1 ≤ get_or r.rows (i + leaves) 0
+  pub room_left : get_or r.marks (i + leaves) false ≡ true → row_length * get_or r.rows (i + leaves) 0 + row_length ≤ room
 
 -- the arrays hold the marks and the rows of the handles reachable from a handle, and there is room for all its rows
-pub record Writable (s : List ℕ) (handle : ℕ) (marks : List Bool) (rows : List ℕ) (room : ℕ) : Type 0 where
+pub record Writable (s : List ℕ) (handle : ℕ) (r : Reach) (room : ℕ) : Type 0 where
   pub handled : Handled s handle
   pub handle_fits : handle < most_handles
-  pub marks_are : (g : ℕ) → g < suc handle → get_or marks g false ≡ get_or (reachable s handle) g false
-  pub rows_are : (g : ℕ) → g < suc handle → get_or rows g 0 ≡ row_of (reachable s handle) g
+  pub marks_are : (g : ℕ) → g < suc handle → get_or r.marks g false ≡ get_or (reachable s handle) g false
+  pub rows_are : (g : ℕ) → g < suc handle → get_or r.rows g 0 ≡ row_of (reachable s handle) g
   pub room_left : row_length * written_count s handle ≤ room

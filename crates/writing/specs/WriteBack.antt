@@ -1,16 +1,19 @@
 -- "Write back: a rule table for a handle. Handle 0: the row of kind 0. Handle 1: rows of kinds 0 and 1. Otherwise those two, then for each
 -- entry reachable from the handle, ascending, an equation row and a row of kind 5. The answer is the row count; words after the rows are
 -- unchanged."
-use Rattle.std.specs.Prelude.{ℕ, zero, suc, ◌+◌, ◌-◌, ◌*◌, Bool, true, false, cond, List, [], ◌∷◌, ◌++◌, eqb, ltb, length, get_or, set, drop, replicate}
+use Rattle.std.specs.Prelude.{ℕ, zero, suc, ◌+◌, ◌-◌, ◌*◌, Bool, true, false, cond, List, [], ◌∷◌, ◌++◌, eqb, ltb, length, get_or, set, drop, replicate, Result, Ok, Err}
 use Rattle.store.specs.Layout.{question_start, entry, leaves, is_handle}
 use Rattle.store.specs.Outcome.{Outcome, outcome}
 use Rattle.store.specs.Sound.{sound}
 use Rattle.tables.specs.Rows.{row_length, most_rows}
 use Rattle.terms.specs.declared.limits.Limits.{Limits}
+use Rattle.terms.specs.Refusal.{answer_number}
 use Rattle.writing.specs.declared.answer.WriteFault.{WriteFault}
 use Rattle.writing.specs.declared.answer.WriteFault.TheVariants.{NotSound, NoHandle, TooManyRows, TooShort}
-use Rattle.writing.specs.declared.answer.Written.{Written}
-use Rattle.writing.specs.declared.answer.Written.TheVariants.{Rows, Refused}
+
+-- What writing back answers: the count of rows, or why nothing was written.
+abbrev pub Written : Type 0
+Written = Result ℕ WriteFault
 
 -- A flag for each handle: the i-th entry, if it is marked, marks its two handles.
 unfoldable pub mark_parts : List ℕ → ℕ → List Bool → List Bool
@@ -65,16 +68,16 @@ written_count s handle = cond (eqb handle 0) 1 (2 + 2 * marked_before (reachable
 -- "53, write-back above 256 rows"; "23, ... write-back slice too short": of a handle of a sound store
 unfoldable pub rows_written : List ℕ → ℕ → List ℕ → Outcome Written
 rows_written s handle out =
-    cond (ltb most_rows (written_count s handle)) (outcome (Refused TooManyRows) out)
-    (cond (ltb (length out) (row_length * written_count s handle)) (outcome (Refused TooShort) out)
-    (outcome (Rows (written_count s handle)) (written_rows s handle ++ drop (row_length * written_count s handle) out)))
+    cond (ltb most_rows (written_count s handle)) (outcome (Err TooManyRows) out)
+    (cond (ltb (length out) (row_length * written_count s handle)) (outcome (Err TooShort) out)
+    (outcome (Ok (written_count s handle)) (written_rows s handle ++ drop (row_length * written_count s handle) out)))
 
 -- "Write back: 22, 41, 53, 23."
 unfoldable pub write_back : Limits → List ℕ → ℕ → List ℕ → Outcome Written
 write_back limits s handle out =
     cond (sound limits s)
-    (cond (is_handle s handle) (rows_written s handle out) (outcome (Refused NoHandle) out))
-    (outcome (Refused NotSound) out)
+    (cond (is_handle s handle) (rows_written s handle out) (outcome (Err NoHandle) out))
+    (outcome (Err NotSound) out)
 
 abbrev pub write_fault_number : WriteFault → ℕ
 write_fault_number NotSound = 22
@@ -83,10 +86,9 @@ write_fault_number TooManyRows = 53
 write_fault_number TooShort = 23
 
 abbrev pub written_number : Written → ℕ
-written_number (Rows n) = 0
-written_number (Refused f) = write_fault_number f
+written_number = answer_number write_fault_number
 
 -- "The answer is the row count"
 abbrev pub written_result : Written → ℕ
-written_result (Rows n) = n
-written_result (Refused f) = 0
+written_result (Ok n) = n
+written_result (Err f) = 0

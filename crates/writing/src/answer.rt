@@ -1,16 +1,11 @@
-// The answer of writing back, and document 01's numbers for it.
+// Why a handle is not written back, and document 01's numbers for the answers of writing back.
 ghost use Rattle.std.specs.Prelude.{◌≡◌};
 ghost use Rattle.writing.specs.WriteBack as spec;
 
-// What writing back answers: the count of rows, or why nothing was written.
-#[derive(Clone, Copy)]
-pub enum Written {
-    Rows(u32),
-    Refused(WriteFault),
-}
+use terms::Refusal;
 
 // Why a handle is not written back.
-#[derive(Clone, Copy)]
+#[derive(Clone, Copy, Debug, PartialEq, Eq)]
 pub enum WriteFault {
     NotSound,
     NoHandle,
@@ -18,34 +13,22 @@ pub enum WriteFault {
     TooShort,
 }
 
-// The number of a fault.
-fn write_fault_number(f: WriteFault) -> u32
-    ensures { result ≡ spec.write_fault_number f }
-{
-    match f {
-        WriteFault::NotSound => 22,
-        WriteFault::NoHandle => 41,
-        WriteFault::TooManyRows => 53,
-        WriteFault::TooShort => 23,
-    }
-}
+impl Refusal for WriteFault {
+    ghost number_of = { spec.write_fault_number };
 
-// The number of an answer.
-pub fn written_number(w: Written) -> u32
-    ensures { result ≡ spec.written_number w }
-{
-    match w {
-        Written::Rows(_) => 0,
-        Written::Refused(f) => write_fault_number(f),
+    fn number(self) -> u32 {
+        match self {
+            WriteFault::NotSound => 22,
+            WriteFault::NoHandle => 41,
+            WriteFault::TooManyRows => 53,
+            WriteFault::TooShort => 23,
+        }
     }
 }
 
 // The result of an answer.
-pub fn written_result(w: Written) -> u32
+pub fn written_result(w: Result<u32, WriteFault>) -> u32
     ensures { result ≡ spec.written_result w }
 {
-    match w {
-        Written::Rows(n) => n,
-        Written::Refused(_) => 0,
-    }
+    w.unwrap_or(0)
 }

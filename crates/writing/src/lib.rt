@@ -6,5 +6,5 @@ mod marking;
 mod rows;
 mod writing;
 
-pub use answer::{WriteFault, Written, written_number, written_result};
+pub use answer::{WriteFault, written_result};
 pub use writing::{write_back, write_back_within};

@@ -6,8 +6,8 @@ ghost use Rattle.terms.specs.Needs.{FitLimits};
 ghost use Rattle.writing.specs.Needs as arrays;
 ghost use Rattle.writing.specs.WriteBack as back;
 
-use crate::answer::{WriteFault, Written};
-use crate::marking::{HANDLES, mark_down, number_rows};
+use crate::answer::WriteFault;
+use crate::marking::Reach;
 use crate::rows::write_rows;
 use soundness::is_sound;
 use store::{has_handle, wide};
@@ -19,48 +19,50 @@ fn count_rows(handle: usize, entries: u32) -> u32
     requires { entries ≤ limit.most_entries }
     ensures { result ≡ cond (eqb handle 0) 1 (2 + 2 * entries) }
 {
-    if handle == 0 {
-        return 1;
-    }
-    2 + 2 * entries
+    if handle == 0 { 1 } else { 2 + 2 * entries }
 }
 
 // Writes a handle of a sound store back.
-fn write_sound(s: &[u32], handle: usize, out: &mut [u32]) -> Written
+fn write_sound(s: &[u32], handle: usize, out: &mut [u32]) -> Result<u32, WriteFault>
     requires { arrays.Handled s.now handle }
     ensures { outcome result out.new ≡ back.rows_written s.now handle out.old }
 {
-    let mut marks = [false; HANDLES];
-    let mut rows = [0u32; HANDLES];
-    mark_down(s, handle, &mut marks);
-    let count = count_rows(handle, number_rows(&marks, handle, &mut rows));
+    let mut reach = Reach::none();
+    reach.mark_down(s, handle);
+    let count = count_rows(handle, reach.number_rows(handle));
     let n = wide(count);
     if MOST_ROWS < n {
-        return Written::Refused(WriteFault::TooManyRows);
+        return Err(WriteFault::TooManyRows);
     }
     if out.len() < ROW_LENGTH * n {
-        return Written::Refused(WriteFault::TooShort);
+        return Err(WriteFault::TooShort);
     }
-    write_rows(s, &marks, &rows, handle, out);
-    Written::Rows(count)
+    write_rows(s, &reach, handle, out);
+    Ok(count)
 }
 
 // Writes a handle back within limits.
-pub fn write_back_within(limits: Limits, s: &[u32], handle: u32, out: &mut [u32]) -> Written
+#[tactic(auto, unfolding(crate::specs::WriteBack::write_back))]
+pub fn write_back_within(
+    limits: Limits,
+    s: &[u32],
+    handle: u32,
+    out: &mut [u32],
+) -> Result<u32, WriteFault>
     requires { FitLimits limits }
     ensures { outcome result out.new ≡ back.write_back limits s.now handle out.old }
 {
-    if is_sound(limits, s) {
-        if has_handle(s, handle) {
-            return write_sound(s, wide(handle), out);
-        }
-        return Written::Refused(WriteFault::NoHandle);
+    if !is_sound(limits, s) {
+        return Err(WriteFault::NotSound);
     }
-    Written::Refused(WriteFault::NotSound)
+    if !has_handle(s, handle) {
+        return Err(WriteFault::NoHandle);
+    }
+    write_sound(s, wide(handle), out)
 }
 
 // Writes a handle back.
-pub fn write_back(s: &[u32], handle: u32, out: &mut [u32]) -> Written
+pub fn write_back(s: &[u32], handle: u32, out: &mut [u32]) -> Result<u32, WriteFault>
     ensures { outcome result out.new ≡ back.write_back limit.store_limits s.now handle out.old }
 {
     write_back_within(limits_of_store(), s, handle, out)

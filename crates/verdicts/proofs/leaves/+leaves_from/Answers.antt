@@ -13,9 +13,6 @@ entry_of-e-requires t c = search (rules, has_entry)
 pub question_at-q-requires : goal.question_at-q-requires
 question_at-q-requires t c = search (rules, is_listed)
 
-pub ask-asked-requires : goal.ask-asked-requires
-ask-asked-requires t c = search (rules, can_ask)
-
 pub leaves_from-requires : goal.leaves_from-requires
 leaves_from-requires t c = (search (rules, yes_falls), search (rules, can_skip_yes))
 
@@ -23,7 +20,10 @@ pub leaves_from-requires-in-Never : goal.leaves_from-requires-in-Never
 leaves_from-requires-in-Never t c = (search (rules, no_falls), search (rules, can_skip_no))
 
 pub leaves_from-a-requires : goal.leaves_from-a-requires
-leaves_from-a-requires t c = (search (rules, yes_falls), search (rules, can_go_yes))
+leaves_from-a-requires t c = (
+  search (rules, yes_falls),
+  can_go_yes c.requires c.if-handle-lt-LEAVES.false c.entry_of-e.ensures c.wide.ensures c.question_at-q.ensures c.in-Open.ensures c.wide-in-Open.ensures,
+)
 
 pub returns-then-a-2 : goal.returns-then-a-2
 returns-then-a-2 t c = search (rules, both_reached)
@@ -31,14 +31,14 @@ returns-then-a-2 t c = search (rules, both_reached)
 pub no-requires : goal.no-requires
 no-requires t c = record { small = search (rules, small_no); noes_lt_most_noes = search (rules, room_for_no) }
 
+pub ask-requires : goal.ask-requires
+ask-requires t c = search (rules, can_ask)
+
 pub leaves_from-requires-in-Open : goal.leaves_from-requires-in-Open
-leaves_from-requires-in-Open t c =
-    let w = c.requires in
-    let h = c.if-handle-lt-LEAVES.false in
-    let ee = c.entry_of-e.ensures in (
-      no_falls w h ee c.decreases c.wide-in-Open-2.ensures,
-      can_go_no w h ee c.wide.ensures c.question_at-q.ensures c.ask-asked.ensures c.in-Open.is c.wide-in-Open-2.ensures c.no.ensures,
-    )
+leaves_from-requires-in-Open t c = (
+  search (rules, no_falls),
+  can_go_no c.requires c.if-handle-lt-LEAVES.false c.entry_of-e.ensures c.wide.ensures c.question_at-q.ensures c.in-Open.ensures c.wide-in-Open-2.ensures c.no.ensures,
+)
 
 pub returns-in-Always : goal.returns-in-Always
 returns-in-Always t c = search (rules, always_reached)
@@ -46,8 +46,7 @@ returns-in-Always t c = search (rules, always_reached)
 pub returns-in-Never : goal.returns-in-Never
 returns-in-Never t c = search (rules, never_reached)
 
-pub returns-after-a : goal.returns-after-a
-returns-after-a t c =
-    either_reached c.requires c.if-handle-lt-LEAVES.false c.entry_of-e.ensures c.wide.ensures c.question_at-q.ensures c.ask-asked.ensures
-    c.in-Open.is c.wide-in-Open.ensures c.leaves_from-a.ensures
-    c.wide-in-Open-2.ensures c.no.result c.no.ensures c.leaves_from-in-Open.ensures c.either.ensures
+pub returns-else-a : goal.returns-else-a
+returns-else-a t c =
+    either_reached c.requires c.if-handle-lt-LEAVES.false c.entry_of-e.ensures c.wide.ensures c.question_at-q.ensures c.in-Open.ensures
+    c.wide-in-Open.ensures c.leaves_from-a.ensures c.wide-in-Open-2.ensures c.no.result c.no.ensures c.leaves_from-in-Open.ensures c.either.ensures

@@ -1,6 +1,6 @@
 -- `write_back_within` meets its contract: its tests are the definition's, in the definition's order.
 use borrow.Author.Rules.{rules}
-use Rattle.writing.proofs.WriteWays.{heading_in, is_handled, is_written, no_handle, not_sound}
+use Rattle.writing.proofs.WriteWays.{heading_in, is_handled}
 use Rattle.writing.proofs.writing.write_back_within.Goals as goal
 
 pub has_handle-requires : goal.has_handle-requires
@@ -8,12 +8,3 @@ has_handle-requires c = search (rules, heading_in)
 
 pub write_sound-requires : goal.write_sound-requires
 write_sound-requires c = search (rules, is_handled)
-
-pub returns-then-has_handle : goal.returns-then-has_handle
-returns-then-has_handle c = search (rules, is_written)
-
-pub returns-then-is_sound : goal.returns-then-is_sound
-returns-then-is_sound c = search (rules, no_handle)
-
-pub returns : goal.returns
-returns c = search (rules, not_sound)
