@@ -7,7 +7,6 @@ use crate::entries::{Entry, put_entry};
 use crate::equations::Equation;
 use crate::grid::MOST_DRAWN;
 use crate::layout::{Store, USED_PLACE};
-use crate::truth::holds;
 use crate::words::{first, put};
 
 // The leaf of each way to answer the questions of a list, question 1 being the highest digit; none where no sheet answers so.
@@ -17,7 +16,7 @@ type Ways = [Option<bool>; 1 << MOST_DRAWN];
 fn way_of(store: Store<'_>, sheet: &[u16]) -> usize {
     let questions = store.list().as_chunks::<2>().0.iter();
     questions.fold(0, |way, pair| {
-        (way << 1) | usize::from(holds(sheet, Equation::from(*pair)))
+        (way << 1) | usize::from(Equation::from(*pair).holds(sheet))
     })
 }
 

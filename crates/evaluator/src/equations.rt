@@ -1,5 +1,5 @@
 // Equations of two terms, each of which is one word: its field, and its steps times 32.
-ghost use Rattle.std.specs.Prelude.{◌≡◌, ◌+◌, ◌/◌, ◌<◌};
+ghost use Rattle.std.specs.Prelude.{◌≡◌, ◌+◌, ◌/◌, ◌<◌, [], ◌∷◌};
 
 use crate::limits::Limits;
 
@@ -31,6 +31,12 @@ impl From<[u32; 2]> for Equation {
 }
 
 impl Equation {
+    pub fn words(self) -> [u32; 2]
+        ensures { result ≡ self.left ∷ self.right ∷ [] }
+    {
+        [self.left, self.right]
+    }
+
     pub fn turned_round(self) -> Equation
         ensures left { result.left ≡ self.right }
         ensures right { result.right ≡ self.left }
@@ -43,9 +49,7 @@ impl Equation {
 
     // Whether a term has a field above n, or too many steps.
     pub fn is_beyond(self, limits: Limits, n: u32) -> bool {
-        [self.left, self.right]
-            .iter()
-            .any(|term| is_beyond(limits, n, *term))
+        is_beyond(limits, n, self.left) || is_beyond(limits, n, self.right)
     }
 
     // Larger field left, no common steps, and no steps on the left of zero.

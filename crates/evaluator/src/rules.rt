@@ -40,7 +40,7 @@ impl Row {
         match self {
             Row::Never => [0, 0, 0, 0],
             Row::Always => [1, 0, 0, 0],
-            Row::Asks(equation) => [2, equation.left, equation.right, 0],
+            Row::Asks(Equation { left, right }) => [2, left, right, 0],
             Row::Not(a) => [3, a, 0, 0],
             Row::And(a, b) => [4, a, b, 0],
             Row::IfThenElse(a, b, c) => [5, a, b, c],

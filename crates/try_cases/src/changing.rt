@@ -22,14 +22,14 @@ enum Change<'a> {
 }
 
 // A change by the name of the call: opening takes the number of fields, the order and a list, build a table, and the others handles.
-fn change_of<'a>(name: &str, given: &Arguments, words: &'a [u32]) -> Change<'a> {
+fn change_of<'a>(name: &str, given: &Arguments, words: &'a [u32]) -> Option<Change<'a>> {
     let [a, b, c] = [given.number(0), given.number(1), given.number(2)];
     let opening = Opening {
         n: a,
         order: b,
         list: words,
     };
-    match name {
+    Some(match name {
         "open" => Change::Open(Side::Institute, opening),
         "logger_open" => Change::Open(Side::Logger, opening),
         "open_raw" => Change::OpenRaw(opening),
@@ -37,8 +37,9 @@ fn change_of<'a>(name: &str, given: &Arguments, words: &'a [u32]) -> Change<'a> 
         "negate" => Change::Add(Call::Negate(a)),
         "join" => Change::Add(Call::Join(a, b)),
         "choose" => Change::Add(Call::Choose(a, b, c)),
-        _ => Change::Add(Call::Build(words)),
-    }
+        "build" => Change::Add(Call::Build(words)),
+        _ => return None,
+    })
 }
 
 impl Change<'_> {
@@ -95,6 +96,20 @@ fn make(rt: &(impl Print + AllocGlobal), store: &mut [u32], change: Change<'_>) 
     print!(rt; "{}{}{remark}", Answered(found), Listed(store))
 }
 
+// A call by its name, with the words of a list or a table.
+fn make_named(
+    rt: &(impl Print + AllocGlobal),
+    store: &mut [u32],
+    name: &str,
+    given: &Arguments,
+    words: &[u32],
+) -> io::Result<()> {
+    match change_of(name, given, words) {
+        Some(change) => make(rt, store, change),
+        None => Err(io::Error::from(io::ErrorKind::InvalidInput)),
+    }
+}
+
 // So many rows always, at most one more than a table may have.
 fn always_rows(alloc: Global, rows: u32) -> Result<Vec<u32>, AllocError> {
     let mut table = Vec::new(alloc);
@@ -112,10 +127,10 @@ pub fn make_change(
     given: &Arguments,
 ) -> io::Result<()> {
     match &given.listed {
-        Some(words) => make(rt, store, change_of(name, given, words.as_slice())),
+        Some(words) => make_named(rt, store, name, given, words.as_slice()),
         None => {
             let rows = always_rows(rt.alloc(), given.number(0))?;
-            make(rt, store, change_of(name, given, rows.as_slice()))
+            make_named(rt, store, name, given, rows.as_slice())
         }
     }
 }
