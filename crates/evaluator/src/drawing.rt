@@ -4,7 +4,7 @@ ghost use Rattle.std.specs.Prelude.{◌+◌, ◌<◌, ◌^◌, length};
 
 use crate::calls::Call;
 use crate::entries::{Entry, put_entry};
-use crate::equations::Equation;
+use crate::equations::Equations;
 use crate::grid::MOST_DRAWN;
 use crate::layout::{Store, USED_PLACE};
 use crate::words::{first, put};
@@ -14,9 +14,8 @@ type Ways = [Option<bool>; 1 << MOST_DRAWN];
 
 // What a sheet answers to the questions, as one number.
 fn way_of(store: Store<'_>, sheet: &[u16]) -> usize {
-    let questions = store.list().as_chunks::<2>().0.iter();
-    questions.fold(0, |way, pair| {
-        (way << 1) | usize::from(Equation::from(*pair).holds(sheet))
+    Equations(store.list()).fold(0, |way, question| {
+        (way << 1) | usize::from(question.holds(sheet))
     })
 }
 

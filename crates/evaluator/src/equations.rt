@@ -1,5 +1,6 @@
 // Equations of two terms, each of which is one word: its field, and its steps times 32.
-ghost use Rattle.std.specs.Prelude.{◌≡◌, ◌+◌, ◌/◌, ◌<◌, [], ◌∷◌};
+ghost use Rattle.std.specs.Iterator.{at_most};
+ghost use Rattle.std.specs.Prelude.{◌≡◌, ◌+◌, ◌/◌, ◌<◌, [], ◌∷◌, length};
 
 use crate::limits::Limits;
 
@@ -64,6 +65,22 @@ impl Equation {
         ensures { result ≡ self.left / 32 + self.right / 32 }
     {
         steps(self.left) + steps(self.right)
+    }
+}
+
+// The equations of a list, by its words.
+#[derive(Clone, Copy)]
+pub struct Equations<'a>(pub &'a [u32]);
+
+impl Iterator for Equations<'_> {
+    type Item = Equation;
+
+    ghost remaining = { λ s. at_most (length s.0.now) };
+
+    fn next(&mut self) -> Option<Equation> {
+        let (pair, rest) = self.0.split_first_chunk::<2>()?;
+        self.0 = rest;
+        Some(Equation::from(*pair))
     }
 }
 

@@ -96,20 +96,6 @@ fn make(rt: &(impl Print + AllocGlobal), store: &mut [u32], change: Change<'_>) 
     print!(rt; "{}{}{remark}", Answered(found), Listed(store))
 }
 
-// A call by its name, with the words of a list or a table.
-fn make_named(
-    rt: &(impl Print + AllocGlobal),
-    store: &mut [u32],
-    name: &str,
-    given: &Arguments,
-    words: &[u32],
-) -> io::Result<()> {
-    match change_of(name, given, words) {
-        Some(change) => make(rt, store, change),
-        None => Err(io::Error::from(io::ErrorKind::InvalidInput)),
-    }
-}
-
 // So many rows always, at most one more than a table may have.
 fn always_rows(alloc: Global, rows: u32) -> Result<Vec<u32>, AllocError> {
     let mut table = Vec::new(alloc);
@@ -119,18 +105,20 @@ fn always_rows(alloc: Global, rows: u32) -> Result<Vec<u32>, AllocError> {
     Ok(table)
 }
 
-// A call with what stands after the bar, or with so many rows.
+// A call by its name, with what stands after the bar, or with so many rows.
 pub fn make_change(
     rt: &(impl Print + AllocGlobal),
     store: &mut [u32],
     name: &str,
     given: &Arguments,
 ) -> io::Result<()> {
-    match &given.listed {
-        Some(words) => make_named(rt, store, name, given, words.as_slice()),
-        None => {
-            let rows = always_rows(rt.alloc(), given.number(0))?;
-            make_named(rt, store, name, given, rows.as_slice())
-        }
+    let rows = always_rows(rt.alloc(), given.number(0))?;
+    let words = match &given.listed {
+        Some(listed) => listed.as_slice(),
+        None => rows.as_slice(),
+    };
+    match change_of(name, given, words) {
+        Some(change) => make(rt, store, change),
+        None => Err(io::Error::from(io::ErrorKind::InvalidInput)),
     }
 }
