@@ -24,10 +24,7 @@ pub struct Equation {
 
 impl From<[u32; 2]> for Equation {
     fn from([left, right]: [u32; 2]) -> Equation {
-        Equation {
-            left: left,
-            right: right,
-        }
+        Equation { left, right }
     }
 }
 

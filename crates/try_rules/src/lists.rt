@@ -28,13 +28,13 @@ fn equation_of(left: u32, right: u32, step: u32, stride: u32) -> Equation {
     let size = stride.saturating_mul(32);
     if step < 4 {
         Equation {
-            left: left,
+            left,
             right: right.saturating_add(size.saturating_mul(step)),
         }
     } else {
         Equation {
             left: left.saturating_add(size.saturating_mul(step - 3)),
-            right: right,
+            right,
         }
     }
 }

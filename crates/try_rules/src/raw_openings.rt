@@ -41,7 +41,7 @@ fn throw_meant(chance: &mut Chance, list: &ShortList, many: bool) -> Equation {
 
 // An equation that is dropped: zero or one of n fields with itself, always or, a step apart, never; or it with two steps and zero, never.
 fn throw_dropped(chance: &mut Chance, n: u32) -> Equation {
-    let field = chance.below(n % 16 + 1);
+    let field = chance.below(n.saturating_add(1));
     let more = chance.below(3);
     Equation {
         left: 32 * more + field,
@@ -95,7 +95,7 @@ fn throw_raw(chance: &mut Chance) -> RawList {
     List {
         n: list.n,
         order: list.order,
-        words: words,
+        words,
     }
 }
 
