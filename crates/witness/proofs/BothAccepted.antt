@@ -9,7 +9,7 @@ use Rattle.terms.specs.declared.order.ListOrder.{ListOrder}
 use Rattle.terms.specs.declared.order.ListOrder.TheVariants.{FieldsFirst, LeftFirst}
 use Rattle.terms.specs.Limits.{store_limits}
 use Rattle.terms.specs.Order.{order_number}
-use Rattle.witness.specs.declared.joining.Joins.TheVariants.{Both}
+use Rattle.std.specs.Prelude.{Some}
 use Rattle.witness.specs.Joined.{after_opening, after_building, joined_both_ways}
 use Rattle.operations.proofs.Computing.{operations_compute}
 
@@ -17,7 +17,7 @@ use Rattle.operations.proofs.Computing.{operations_compute}
 abbrev AcceptedIn : ℕ → Type 0
 AcceptedIn order =
     joined_both_ways store_limits 2 order (1 ∷ 0 ∷ 2 ∷ 0 ∷ []) (2 ∷ 1 ∷ 0 ∷ 0 ∷ []) (2 ∷ 2 ∷ 0 ∷ 0 ∷ []) (replicate 17 7)
-    ≡ outcome (Both 4 4) (2 ∷ 2 ∷ 3 ∷ order ∷ 1 ∷ 0 ∷ 2 ∷ 0 ∷ 1 ∷ 1 ∷ 0 ∷ 2 ∷ 1 ∷ 0 ∷ 1 ∷ 3 ∷ 0 ∷ [])
+    ≡ outcome (Some (4, 4)) (2 ∷ 2 ∷ 3 ∷ order ∷ 1 ∷ 0 ∷ 2 ∷ 0 ∷ 1 ∷ 1 ∷ 0 ∷ 2 ∷ 1 ∷ 0 ∷ 1 ∷ 3 ∷ 0 ∷ [])
 
 pub both_accepted : (order : ListOrder) → AcceptedIn (order_number order)
 unfolding operations_compute after_opening after_building joined_both_ways

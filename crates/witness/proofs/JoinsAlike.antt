@@ -5,7 +5,7 @@ use mathlib.Core.Bool.{Bool, true, false, ◌&&◌}
 use mathlib.Core.List.{List, [], ◌∷◌}
 use lib.ListN.{length}
 use Rattle.operations.specs.Built.{Built}
-use Rattle.std.specs.Prelude.{Ok, Err}
+use Rattle.std.specs.Prelude.{Ok, Err, None}
 use Rattle.operations.specs.Handles.{Call, build, join, answer_to, Rule, Pair, pair, first_ledger, rule_of, rule_of_call, enter, Books, opened_books, after, run, In, newest, older}
 use Rattle.operations.specs.Kept.{Kept}
 use Rattle.terms.specs.declared.limits.Limits.{Limits}
@@ -15,9 +15,7 @@ use Rattle.store.specs.Open as spec
 use Rattle.store.specs.Outcome.{Outcome, outcome}
 use Rattle.tables.specs.Rows.{rule_meaning}
 use Rattle.terms.specs.Meaning.{Valuation}
-use Rattle.witness.specs.declared.joining.Joins.{Joins}
-use Rattle.witness.specs.declared.joining.Joins.TheVariants.{Refused}
-use Rattle.witness.specs.Joined.{SameHandles, after_opening, after_building, joined_both_ways}
+use Rattle.witness.specs.Joined.{Joins, SameHandles, after_opening, after_building, joined_both_ways}
 use Rattle.operations.proofs.BuiltCases.{built_cases}
 use Rattle.operations.proofs.HandleLaw.{rule_is_meaning, run_kept, handle_law}
 use Rattle.operations.proofs.StandingDiagrams.{stands_means}
@@ -102,7 +100,7 @@ module _ (limits : Limits) (n order : ℕ) (list s first second : List ℕ) (e :
 -- ---- a claim about what follows a call, which is accepted or refused
 module _ (P : Outcome Joins → Type 0) where
   by_opened : (limits : Limits) (n order : ℕ) (list s : List ℕ) (rest : List ℕ → Outcome Joins)
-      → (opening limits n order list (length s) ≡ Ok tt → P (rest (opened_words n order list (length s)))) → P (outcome Refused s)
+      → (opening limits n order list (length s) ≡ Ok tt → P (rest (opened_words n order list (length s)))) → P (outcome None s)
       → P (after_opening (open_store limits n order list s) rest)
   unfolding open_store after_opening
   by_opened limits n order list s rest goes_on stops = go (opening limits n order list (length s)) refl
@@ -112,9 +110,9 @@ module _ (P : Outcome Joins → Type 0) where
       go (Err f) e = stops
 
   by_built : (o : Outcome Built) (rest : ℕ → List ℕ → Outcome Joins)
-      → ((h : ℕ) → o.answer ≡ Ok h → P (rest h o.words)) → P (outcome Refused o.words) → P (after_building o rest)
+      → ((h : ℕ) → o.answer ≡ Ok h → P (rest h o.words)) → P (outcome None o.words) → P (after_building o rest)
   unfolding after_building
-  by_built o rest goes_on stops = built_cases P o.answer (λ h. rest h o.words) (λ f. outcome Refused o.words) goes_on (λ f _. stops)
+  by_built o rest goes_on stops = built_cases P o.answer (λ h. rest h o.words) (λ f. outcome None o.words) goes_on (λ f _. stops)
 
 -- ---- the five calls, as the definition has them
 abbrev Alike : Outcome Joins → Type 0

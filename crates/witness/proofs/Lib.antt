@@ -1,3 +1,2 @@
 pub mod JoinsAlike
-pub mod JoinWays
 pub mod BothAccepted

@@ -3,4 +3,4 @@
 
 mod joining;
 
-pub use joining::{Joins, join_both_ways};
+pub use joining::join_both_ways;
