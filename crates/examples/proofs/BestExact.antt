@@ -1,12 +1,13 @@
 -- The best sheet is the least one that satisfies: each path to always gives the least sheet of its facts, every satisfying sheet follows such
 -- a path, and the earlier of two is kept.
+use Rattle.std.specs.Prelude.{Some, None}
 use Prim.Native.Nat.{ℕ}
 use mathlib.Core.Path.{◌≡◌, refl, sym, subst, ◌∙◌}
 use mathlib.Core.Logic.{◌⊎◌, inl, inr}
 use mathlib.Core.Bool.{true, false, cond, false≢true}
 use mathlib.Core.List.{List, ◌∷◌}
 use lib.ListN.{length}
-use Rattle.examples.specs.Best.{sheet, Best, none, some, Sized, lesser, best}
+use Rattle.examples.specs.Best.{sheet, Best, Sized, lesser, best}
 use Rattle.facts.specs.declared.decision.Decision.{Decision}
 use Rattle.facts.specs.declared.decision.Decision.TheVariants.{Always, Never, Open}
 use Rattle.facts.specs.declared.fact.Fact.{Fact}
@@ -27,14 +28,7 @@ use Rattle.terms.proofs.Cases.{by_test}
 use Rattle.terms.proofs.QuestionOrder.{lex_irreflexive}
 use Rattle.verdicts.proofs.ReachedExact.{under}
 
-abbrev pub IsNone : Best → Type 0
-IsNone none = Unit {0}
-IsNone (some x) = ⊥
-
-pub no_some : (y : List ℕ) → none ≡ some y → ⊥
-no_some y e = subst IsNone e tt
-
-pub same_some : {x y : List ℕ} → some x ≡ some y → x ≡ y
+pub same_some : {x y : List ℕ} → Some x ≡ Some y → x ≡ y
 same_some e = cc
 
 module _ (ask : ℕ → Equation) (n : ℕ) where
@@ -44,20 +38,23 @@ module _ (ask : ℕ → Equation) (n : ℕ) where
 
   -- there is a best sheet, and the sheet y is not before it
   pub data NotBefore (y : List ℕ) : Best → Type 0 where
-    not_before : {x : List ℕ} → lex y x ≡ false → NotBefore y (some x)
+    not_before : {x : List ℕ} → lex y x ≡ false → NotBefore y (Some x)
 
-  pub not_none : {y : List ℕ} {b : Best} → NotBefore y b → IsNone b → ⊥
-  not_none (not_before e) i = i
+  pub not_none : {y : List ℕ} → NotBefore y None → ⊥
+  not_none {y} w = go w refl
+    where
+      go : {b : Best} → NotBefore y b → b ≡ None → ⊥
+      go (not_before e) d = cc
 
-  pub not_before_says : {y x : List ℕ} → NotBefore y (some x) → lex y x ≡ false
+  pub not_before_says : {y x : List ℕ} → NotBefore y (Some x) → lex y x ≡ false
   not_before_says (not_before e) = e
 
   pub record Right (xs : List Fact) (t : Tree) (b r : Best) : Type 0 where
     -- the best so far stands, or a satisfying sheet was found
-    pub comes_of : (r ≡ b) ⊎ ((v : Valuation) × Satisfies xs t v × (r ≡ some (sheet n v)))
+    pub comes_of : (r ≡ b) ⊎ ((v : Valuation) × Satisfies xs t v × (r ≡ Some (sheet n v)))
     -- no satisfying sheet is before it, nor was the best so far
     pub is_least : (v : Valuation) → Satisfies xs t v → NotBefore (sheet n v) r
-    pub keeps : (y : List ℕ) → b ≡ some y → NotBefore y r
+    pub keeps : (y : List ℕ) → b ≡ Some y → NotBefore y r
 
   pub sheet_size : (v : Valuation) → length (sheet n v) ≡ n
   sheet_size v = counts_length n 1 (at v)
@@ -68,7 +65,7 @@ module _ (ask : ℕ → Equation) (n : ℕ) where
     | inr f ↦ subst (Sized n) (sym f.2) (sheet_size f.0)
   ]
 
-  pass_on : {y : List ℕ} {b r : Best} → length y ≡ n → Sized n b → NotBefore y b → ((x : List ℕ) → b ≡ some x → NotBefore x r) → NotBefore y r
+  pass_on : {y : List ℕ} {b r : Best} → length y ≡ n → Sized n b → NotBefore y b → ((x : List ℕ) → b ≡ Some x → NotBefore x r) → NotBefore y r
   pass_on {y} {r = r} l z (not_before {x = x} e) k = go (k x refl)
     where
       go : {r : Best} → NotBefore x r → NotBefore y r
@@ -92,21 +89,21 @@ module _ (ask : ℕ → Equation) (n : ℕ) where
       first v h = least_not_after n (Fit (state_of xs)) (least_sheet n (state_of xs)) (least_sheet_least n (state_of xs) (state_of_zero xs) f) v ((state_exact xs v).1 h)
 
       go : (b : Best) → Sized n b → Right xs (leaf true) b (lesser b (sheet n (least_sheet n (state_of xs))))
-      go none z = record {
+      go None z = record {
         comes_of = inr (least_sheet n (state_of xs), (fits, refl), refl);
         is_least = λ v s. not_before (first v s.0);
-        keeps = λ y e. absurd (no_some y e);
+        keeps = λ y e. absurd (cc);
       }
-      go (some y) z = by_test (λ t. Right xs (leaf true) (some y) (cond t (some (sheet n (least_sheet n (state_of xs)))) (some y))) (lex (sheet n (least_sheet n (state_of xs))) y)
+      go (Some y) z = by_test (λ t. Right xs (leaf true) (Some y) (cond t (Some (sheet n (least_sheet n (state_of xs)))) (Some y))) (lex (sheet n (least_sheet n (state_of xs))) y)
           (λ t. record {
             comes_of = inr (least_sheet n (state_of xs), (fits, refl), refl);
             is_least = λ v s. not_before (first v s.0);
-            keeps = λ w e. subst (λ u. NotBefore u (some (sheet n (least_sheet n (state_of xs))))) (same_some e) (not_before (before_not_after (sheet n (least_sheet n (state_of xs))) y t));
+            keeps = λ w e. subst (λ u. NotBefore u (Some (sheet n (least_sheet n (state_of xs))))) (same_some e) (not_before (before_not_after (sheet n (least_sheet n (state_of xs))) y t));
           })
           (λ t. record {
             comes_of = inl refl;
             is_least = λ v s. not_before (not_before_trans (sheet n v) (sheet n (least_sheet n (state_of xs))) y (sheet_size v ∙ sym (sheet_size (least_sheet n (state_of xs)))) (first v s.0) t);
-            keeps = λ w e. subst (λ u. NotBefore u (some y)) (same_some e) (not_before (lex_irreflexive y));
+            keeps = λ w e. subst (λ u. NotBefore u (Some y)) (same_some e) (not_before (lex_irreflexive y));
           })
 
   -- ---- two parts, sought one after the other: what satisfies one of them satisfies the whole, and the other way round

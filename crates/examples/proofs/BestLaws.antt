@@ -1,13 +1,13 @@
 -- What the best sheet is on each way through the code that ends at a handle: a sheet takes its place if it is before.
+use Rattle.std.specs.Prelude.{Option, Some, None}
 use Prim.Native.Nat.{ℕ, zero, suc, ◌+◌, ◌≤◌, ◌<◌}
 use mathlib.Core.Path.{◌≡◌, refl, sym, ap, ap₂, subst, ◌∙◌}
-use mathlib.Core.Bool.{Bool, true, false, cond, not, false≢true}
+use mathlib.Core.Bool.{Bool, true, false, not, false≢true}
 use mathlib.Core.List.{List, ◌∷◌}
 use native.Mathlib.Omega.{arith}
 use lib.ListN.{get_or}
-use Rattle.examples.specs.declared.best.Best as code
-use Rattle.examples.specs.Best.{Sized, counts_from, sheet, Best, none, some, lesser, best}
-use Rattle.examples.specs.Needs.{beaten, sheet_of, best_of, Fields, CanSeek}
+use Rattle.examples.specs.Best.{Sized, counts_from, sheet, Best, lesser, best}
+use Rattle.examples.specs.Needs.{beaten, sheet_of, best_of, CanSeek}
 use Rattle.facts.specs.declared.least.Sheet.{Sheet}
 use Rattle.facts.specs.declared.record.Facts.{Facts}
 use Rattle.facts.specs.Least.{least_sheet}
@@ -21,19 +21,6 @@ use Rattle.examples.proofs.BestOnly.{best_beaten}
 use Rattle.examples.proofs.Sheets.{counts_length}
 use Rattle.store.proofs.SoundFacts.{sound_says}
 use Rattle.store.proofs.SoundTree.{tree_never, tree_always}
-use Rattle.terms.proofs.Cases.{by_test}
-
--- ---- the lesser of two
-module _ (n : ℕ) (b : code.Best) (x : Sheet) where
-  pub takes_first : b.found ≡ false → best_of n (record { found = true; sheet = x }) ≡ lesser (best_of n b) (sheet_of n x)
-  takes_first e = rw e refl
-
-  module _ (e : b.found ≡ true) {c : Bool} (ec : c ≡ lex (sheet_of n x) (sheet_of n b.sheet)) where
-    pub takes_before : c ≡ true → best_of n (record { found = true; sheet = x }) ≡ lesser (best_of n b) (sheet_of n x)
-    takes_before d = rw (e, ← ec, d) refl
-
-    pub keeps_best : c ≡ false → best_of n b ≡ lesser (best_of n b) (sheet_of n x)
-    keeps_best d = rw (e, ← ec, d) refl
 
 -- ---- a leaf
 counts_same : (n i : ℕ) (c d : ℕ → ℕ) → ((j : ℕ) → i ≤ j → j < i + n → c j ≡ d j) → counts_from n i c ≡ counts_from n i d
@@ -46,15 +33,9 @@ least_read : {f : Facts} {n : ℕ} {x : Sheet} → LeastCounts f n x → sheet_o
 least_read {f} {n} {x} l = counts_same n 1 (λ i. get_or x.counts i 0) (at (least_sheet n (state f))) (λ j h i. l.count_at j h (omega arith))
 
 -- ---- whether the best so far is beaten
-module _ {n : ℕ} (b : code.Best) (e : b.found ≡ true) {f : Facts} {x : Sheet} (l : LeastCounts f n x) {c : Bool} (ec : c ≡ lex (sheet_of n x) (sheet_of n b.sheet)) where
-  tested : c ≡ lex (sheet n (least_sheet n (state f))) (sheet_of n b.sheet)
-  tested = ec ∙ ap (λ y. lex y (sheet_of n b.sheet)) (least_read l)
-
-  pub may_better : c ≡ true → false ≡ beaten n (state f) (best_of n b)
-  may_better d = rw (e, ← tested, d) refl
-
-  pub none_better : c ≡ false → true ≡ beaten n (state f) (best_of n b)
-  none_better d = rw (e, ← tested, d) refl
+module _ {n : ℕ} {f : Facts} {x : Sheet} (y : Sheet) (l : LeastCounts f n x) {c : Bool} (ec : c ≡ lex (sheet_of n x) (sheet_of n y)) where
+  pub beats : {best : Option Sheet} → best ≡ Some y → not c ≡ beaten n (state f) (best_of n best)
+  beats e = ap not (ec ∙ ap (λ z. lex z (sheet_of n y)) (least_read l)) ∙ sym (ap (λ b. beaten n (state f) (best_of n b)) e)
 
 module _ {s : List ℕ} {handle : ℕ} {f : Facts} {n : ℕ} (k : CanSeek s handle f n) where
   pub has_least : HasLeast f n
@@ -68,9 +49,6 @@ module _ {s : List ℕ} {handle : ℕ} {f : Facts} {n : ℕ} (k : CanSeek s hand
         few_fields = k.few_fields;
       }
 
-  pub has_fields : Fields n
-  has_fields = record { few = k.few_fields }
-
   pub never_best : handle ≡ 0 → (b : Best) → b ≡ best (question s) n (tree s handle) (state f) b
   unfolding best
   never_best e b = rw (e, tree_never s) refl
@@ -83,12 +61,13 @@ module _ {s : List ℕ} {handle : ℕ} {f : Facts} {n : ℕ} (k : CanSeek s hand
 
   -- ---- no better sheet is left
   -- every sheet of the code has n counts
-  pub sized : (b : code.Best) → Sized n (best_of n b)
-  sized b = by_test (λ t. Sized n (cond t (some (sheet_of n b.sheet)) none)) b.found (λ _. counts_length n 1 (λ i. get_or b.sheet.counts i 0)) (λ _. tt)
+  pub sized : (b : Option Sheet) → Sized n (best_of n b)
+  sized None = tt
+  sized (Some x) = counts_length n 1 (λ i. get_or x.counts i 0)
 
   stays : (b : Best) → Sized n b → beaten n (state f) b ≡ true → b ≡ best (question s) n (tree s handle) (state f) b
-  stays none z e = absurd (false≢true e)
-  stays (some y) z e =
+  stays None z e = absurd (false≢true e)
+  stays (Some y) z e =
       let h = k.descent.holds in
       let not_first : lex (sheet n (least_sheet n (state f))) y ≡ false = not_true (lex (sheet n (least_sheet n (state f))) y) e in
       rw h.is (sym (best_beaten (question s) n h.facts (subst (λ st. free st ≡ true) h.is h.fitted) (tree s handle) y z (subst (λ st. lex (sheet n (least_sheet n st)) y ≡ false) h.is not_first)))
@@ -97,5 +76,5 @@ module _ {s : List ℕ} {handle : ℕ} {f : Facts} {n : ℕ} (k : CanSeek s hand
       not_true true d = absurd (false≢true d)
       not_true false d = refl
 
-  pub beaten_best : (b : code.Best) {c : Bool} → c ≡ beaten n (state f) (best_of n b) → c ≡ true → best_of n b ≡ best (question s) n (tree s handle) (state f) (best_of n b)
+  pub beaten_best : (b : Option Sheet) {c : Bool} → c ≡ beaten n (state f) (best_of n b) → c ≡ true → best_of n b ≡ best (question s) n (tree s handle) (state f) (best_of n b)
   beaten_best b ec d = stays (best_of n b) (sized b) (sym ec ∙ d)

@@ -1,11 +1,12 @@
 -- What is right is the only one: two right results are not before each other, and sheets of one length that are not are equal. So a diagram
 -- whose facts leave no better sheet need not be walked, and its parts may be sought in either order.
+use Rattle.std.specs.Prelude.{Some, None}
 use Prim.Native.Nat.{ℕ}
 use mathlib.Core.Path.{◌≡◌, refl, sym, ap, subst, ◌∙◌}
 use mathlib.Core.Logic.{inl, inr}
 use mathlib.Core.Bool.{true, false}
 use mathlib.Core.List.{List, ◌∷◌}
-use Rattle.examples.specs.Best.{Sized, sheet, Best, none, some, best}
+use Rattle.examples.specs.Best.{Sized, sheet, Best, best}
 use Rattle.facts.specs.declared.decision.Decision.TheVariants.{Open}
 use Rattle.facts.specs.declared.fact.Fact.{Fact}
 use Rattle.facts.specs.Facts.{fact, Fits, Forces}
@@ -25,26 +26,26 @@ use Rattle.terms.proofs.QuestionOrder.{lex_irreflexive}
 
 module _ (ask : ℕ → Equation) (n : ℕ) where
   -- a right result is not before another
-  not_better : {xs : List Fact} {t : Tree} {b r r' : Best} → Right ask n xs t b r → Right ask n xs t b r' → (y : List ℕ) → r' ≡ some y → NotBefore ask n y r
+  not_better : {xs : List Fact} {t : Tree} {b r r' : Best} → Right ask n xs t b r → Right ask n xs t b r' → (y : List ℕ) → r' ≡ Some y → NotBefore ask n y r
   not_better {r = r} w w' y e = elim w'.comes_of [
     | inl d ↦ w.keeps y (sym d ∙ e)
     | inr f ↦ subst (λ x. NotBefore ask n x r) (same_some (sym f.2 ∙ e)) (w.is_least f.0 f.1)
   ]
 
   pub right_only : {xs : List Fact} {t : Tree} {b : Best} → Sized n b → (r r' : Best) → Right ask n xs t b r → Right ask n xs t b r' → r ≡ r'
-  right_only z none none w w' = refl
-  right_only z none (some y) w w' = absurd (not_none ask n (not_better w w' y refl) tt)
-  right_only z (some x) none w w' = absurd (not_none ask n (not_better w' w x refl) tt)
-  right_only z (some x) (some y) w w' =
-      ap some (neither_before x y (right_sized ask n w z ∙ sym (right_sized ask n w' z)) (not_before_says ask n (not_better w' w x refl)) (not_before_says ask n (not_better w w' y refl)))
+  right_only z None None w w' = refl
+  right_only z None (Some y) w w' = absurd (not_none ask n (not_better w w' y refl))
+  right_only z (Some x) None w w' = absurd (not_none ask n (not_better w' w x refl))
+  right_only z (Some x) (Some y) w w' =
+      ap Some (neither_before x y (right_sized ask n w z ∙ sym (right_sized ask n w' z)) (not_before_says ask n (not_better w' w x refl)) (not_before_says ask n (not_better w w' y refl)))
 
   module _ (xs : List Fact) (f : free (state_of xs) ≡ true) where
     -- ---- a diagram that can't better the best so far
-    pub best_beaten : (t : Tree) (y : List ℕ) → Sized n (some y) → lex (sheet n (least_sheet n (state_of xs))) y ≡ false → best ask n t (state_of xs) (some y) ≡ some y
-    best_beaten t y z h = right_only z _ _ (best_right ask n t xs (some y) f z) (record {
+    pub best_beaten : (t : Tree) (y : List ℕ) → Sized n (Some y) → lex (sheet n (least_sheet n (state_of xs))) y ≡ false → best ask n t (state_of xs) (Some y) ≡ Some y
+    best_beaten t y z h = right_only z _ _ (best_right ask n t xs (Some y) f z) (record {
       comes_of = inl refl;
       is_least = λ v s. not_before (not_before_trans (sheet n v) (sheet n (least_sheet n (state_of xs))) y (sheet_size ask n v ∙ sym (sheet_size ask n (least_sheet n (state_of xs)))) (first v s.0) h);
-      keeps = λ x e. subst (λ u. NotBefore ask n u (some y)) (same_some e) (not_before (lex_irreflexive y));
+      keeps = λ x e. subst (λ u. NotBefore ask n u (Some y)) (same_some e) (not_before (lex_irreflexive y));
     })
       where
         first : (v : Valuation) → Fits xs v → lex (sheet n v) (sheet n (least_sheet n (state_of xs))) ≡ false

@@ -1,5 +1,6 @@
 -- An example that is written is the least sheet of a choice of counts that satisfies the handle. Read as a sheet it is that choice again, on the fields that
 -- the handle reads; and a sheet before it is the sheet of a choice that comes before, which fails the handle.
+use Rattle.std.specs.Prelude.{Some, None, Ok, Err}
 use Prim.Native.Nat.{ℕ, ◌+◌, ◌-◌, ◌≤◌, ◌<◌}
 use mathlib.Core.Path.{◌≡◌, refl, sym, ap, ◌∙◌, subst}
 use mathlib.Core.Bool.{true, false, cond, true≢false}
@@ -10,16 +11,14 @@ use borrow.Author.Tests.{eq-eqb, ne_eqb, ltb-true}
 use lib.Dec.{eqb}
 use lib.ListN.{length, get_or}
 use lib.Seq.{ext_get_or}
-use Rattle.examples.specs.declared.answer.Example.TheVariants.{Refused}
 use Rattle.examples.specs.declared.answer.ExampleFault.{ExampleFault}
 use Rattle.examples.specs.declared.answer.ExampleFault.TheVariants.{NoHandle, WrongLength, Nothing}
-use Rattle.examples.specs.Best.{sheet, Best, none, some}
+use Rattle.examples.specs.Best.{sheet, Best}
 use Rattle.examples.specs.Example.{given, best_sheet, example}
 use Rattle.examples.specs.ExampleAnswers.{FirstExample, NothingFits, ExampleAnswers}
 use Rattle.examples.specs.ExampleSays.{ExampleSays}
 use Rattle.facts.specs.Least.{IsLeast}
 use Rattle.facts.specs.State.{at}
-use Rattle.reading.specs.declared.answer.Read.TheVariants.{Satisfies}
 use Rattle.reading.specs.Read.{read_sheet}
 use Rattle.reading.specs.Sheet.{sheet_counts}
 use Rattle.store.specs.Layout.{field_count, used, leaves, is_handle}
@@ -36,7 +35,7 @@ use Rattle.examples.proofs.ExampleBound.{example_within_gap}
 use Rattle.examples.proofs.ExampleMeans.{example_says}
 use Rattle.examples.proofs.SheetOrder.{least_not_after}
 use Rattle.examples.proofs.Sheets.{counts_length}
-use Rattle.examples.proofs.SheetWritten.{counts_at}
+use Rattle.examples.proofs.Sheets.{counts_at}
 use Rattle.store.proofs.MeaningRests.{same_meaning, same_question}
 use Rattle.store.proofs.SoundFacts.{sound_says}
 use Rattle.terms.proofs.Cases.{by_test, by_eq}
@@ -78,13 +77,13 @@ module _ (limits : Limits) (s : List ℕ) (is : sound limits s ≡ true) (handle
     read_again : (v : Valuation) → meaning s handle (sheet_counts (sheet n v)) ≡ meaning s handle v
     read_again v = same_meaning snd (sheet_counts (sheet n v)) v (same_question snd (sheet_counts (sheet n v)) v (choice_of_sheet n v)) handle handle_in
 
-    reads : (x : List ℕ) → length x ≡ n → read_sheet limits s handle x ≡ Satisfies (meaning s handle (sheet_counts x))
+    reads : (x : List ℕ) → length x ≡ n → read_sheet limits s handle x ≡ Ok (meaning s handle (sheet_counts x))
     unfolding read_sheet
     reads x e = rw (is, u, eq-eqb (length x) n e)
 
     first_example : (v : Valuation) → IsLeast n (λ w. meaning s handle w ≡ true) v → FirstExample limits s handle (sheet n v)
     first_example v least = record {
-      satisfies = reads (sheet n v) (sheet_length n v) ∙ ap Satisfies (read_again v ∙ least.meets);
+      satisfies = reads (sheet n v) (sheet_length n v) ∙ ap Ok (read_again v ∙ least.meets);
       first = λ other e before. by_test (λ t. t ≡ false) (meaning s handle (sheet_counts other))
           (λ m. absurd (true≢false (sym before ∙ ap (λ y. lex y (sheet n v)) (sym (sheet_of_list other n e))
           ∙ least_not_after n (λ w. meaning s handle w ≡ true) v least (sheet_counts other) m)))
@@ -96,8 +95,8 @@ module _ (limits : Limits) (s : List ℕ) (is : sound limits s ≡ true) (handle
 
     -- by the best sheet over all paths
     given_answers : length out ≡ n → (b : Best) → ExampleSays n (meaning s handle) b → ExampleAnswers limits s handle out (given b out)
-    given_answers e none says = record {
-      written = λ d. absurd (let z : ◌≡◌ {A = ℕ} 0 1 = cc in omega arith);
+    given_answers e None says = record {
+      written = λ d. absurd (cc);
       none = (
         λ _. record {
           has_handle = u;
@@ -107,24 +106,24 @@ module _ (limits : Limits) (s : List ℕ) (is : sound limits s ≡ true) (handle
         λ _. refl,
       );
     }
-    given_answers e (some x) says = record {
+    given_answers e (Some x) says = record {
       written = λ _. subst (FirstExample limits s handle) (sym says.2) (first_example says.0 says.1);
-      none = (λ d. absurd (let z : ◌≡◌ {A = ℕ} 0 1 = cc in omega arith), λ fits. absurd (true≢false (sym says.1.meets ∙ fits.nothing says.0)));
+      none = (λ d. absurd (cc), λ fits. absurd (true≢false (sym says.1.meets ∙ fits.nothing says.0)));
     }
 
   -- a refusal before 52
-  refused_answers : (f : ExampleFault) → f ≢ Nothing → (NothingFits s handle out → ⊥) → ExampleAnswers limits s handle out (outcome (Refused f) out)
+  refused_answers : (f : ExampleFault) → f ≢ Nothing → (NothingFits s handle out → ⊥) → ExampleAnswers limits s handle out (outcome (Err f) out)
   refused_answers f other not_fits = record {
-    written = λ d. absurd (let z : ◌≡◌ {A = ℕ} 0 1 = cc in omega arith);
+    written = λ d. absurd (cc);
     none = (λ d. absurd (other (cc)), λ fits. absurd (not_fits fits));
   }
 
   pub example_answers : ExampleAnswers limits s handle out (example limits s handle out)
   unfolding example
   example_answers = rw is (by_test (λ t. ExampleAnswers limits s handle out
-      (cond t (cond (eqb (length out) n) (given (best_sheet s handle) out) (outcome (Refused WrongLength) out)) (outcome (Refused NoHandle) out)))
+      (cond t (cond (eqb (length out) n) (given (best_sheet s handle) out) (outcome (Err WrongLength) out)) (outcome (Err NoHandle) out)))
       (is_handle s handle)
-      (λ u. by_eq (λ t. ExampleAnswers limits s handle out (cond t (given (best_sheet s handle) out) (outcome (Refused WrongLength) out))) (length out) n
+      (λ u. by_eq (λ t. ExampleAnswers limits s handle out (cond t (given (best_sheet s handle) out) (outcome (Err WrongLength) out))) (length out) n
       (λ e. given_answers u e (best_sheet s handle) (example_says snd handle (handle_in u) n))
-      (λ d. refused_answers WrongLength (λ e. let z : ◌≡◌ {A = ℕ} 0 1 = cc in omega arith) (λ fits. d fits.right_length)))
-      (λ d. refused_answers NoHandle (λ e. let z : ◌≡◌ {A = ℕ} 0 1 = cc in omega arith) (λ fits. true≢false (sym fits.has_handle ∙ d))))
+      (λ d. refused_answers WrongLength (λ e. cc) (λ fits. d fits.right_length)))
+      (λ d. refused_answers NoHandle (λ e. cc) (λ fits. true≢false (sym fits.has_handle ∙ d))))

@@ -9,11 +9,10 @@ use native.Mathlib.Nat.{le_trans, mul-le-mul}
 use native.Mathlib.Omega.{arith}
 use lib.Dec.{eqb}
 use lib.ListN.{length, get_or}
-use Rattle.examples.specs.declared.answer.Example.{Example}
-use Rattle.examples.specs.declared.answer.Example.TheVariants.{Written, Refused}
+use Rattle.std.specs.Prelude.{Ok, Err}
 use Rattle.examples.specs.declared.answer.ExampleFault.TheVariants.{NotSound, NoHandle, WrongLength}
 use Rattle.examples.specs.CountBound.{count_bound}
-use Rattle.examples.specs.Example.{given, best_sheet, example}
+use Rattle.examples.specs.Example.{Example, given, best_sheet, example}
 use Rattle.examples.specs.LargestGap.{gap_size, list_gap}
 use Rattle.facts.specs.Least.{IsLeast}
 use Rattle.facts.specs.State.{at}
@@ -60,20 +59,20 @@ module _ (limits : Limits) (s : List ℕ) (handle : ℕ) (out : List ℕ) where
   o = example limits s handle out
 
   -- only in a sound store is anything written
-  written_sound : o.answer ≡ Written → sound limits s ≡ true
+  written_sound : o.answer ≡ Ok tt → sound limits s ≡ true
   unfolding example
   written_sound =
-      by_test (λ t. (cond t (cond (is_handle s handle) (cond (eqb (length out) (field_count s)) (given (best_sheet s handle) out) (outcome (Refused WrongLength) out))
-      (outcome (Refused NoHandle) out)) (outcome (Refused NotSound) out)).answer ≡ Written → t ≡ true)
-      (sound limits s) (λ _ _. refl) (λ _ e. absurd (let z : ◌≡◌ {A = ℕ} 0 1 = cc in omega arith))
+      by_test (λ t. (cond t (cond (is_handle s handle) (cond (eqb (length out) (field_count s)) (given (best_sheet s handle) out) (outcome (Err WrongLength) out))
+      (outcome (Err NoHandle) out)) (outcome (Err NotSound) out)).answer ≡ Ok tt → t ≡ true)
+      (sound limits s) (λ _ _. refl) (λ _ (e : ◌≡◌ {A = Example} (Err NotSound) (Ok tt)). absurd (cc))
 
   -- No count of an accepted example exceeds the largest field times one more than the largest step count.
-  pub example_within_limits : o.answer ≡ Written → (i : ℕ) → i < field_count s → get_or o.words i 0 ≤ count_bound limits.terms
+  pub example_within_limits : o.answer ≡ Ok tt → (i : ℕ) → i < field_count s → get_or o.words i 0 ≤ count_bound limits.terms
   example_within_limits w i h =
       let is = written_sound w in
       le_trans (((example_answers limits s is handle out).written w).within i h) (gap_bound_within (sound_says limits s is))
 
 -- "the example bound reaches 16 × 1,024 = 16,384"
-pub public_example_within : (s : List ℕ) (handle : ℕ) (out : List ℕ) → (example store_limits s handle out).answer ≡ Written
+pub public_example_within : (s : List ℕ) (handle : ℕ) (out : List ℕ) → (example store_limits s handle out).answer ≡ Ok tt
     → (i : ℕ) → i < field_count s → get_or (example store_limits s handle out).words i 0 ≤ 16384
 public_example_within s handle out = example_within_limits store_limits s handle out

@@ -1,18 +1,19 @@
 -- What the best sheet is at an entry: its question is asked as the verdict asks it, and its parts are sought in turn, in whichever order.
 use Prim.Native.Nat.{ℕ, ◌+◌, ◌-◌, ◌≤◌, ◌<◌}
-use mathlib.Core.Path.{◌≡◌, sym, ap, ap₂, subst, ◌∙◌}
+use mathlib.Core.Path.{◌≡◌, refl, sym, ap, ap₂, subst, ◌∙◌}
 use mathlib.Core.Logic.{◌≢◌}
 use mathlib.Core.Bool.{true}
 use mathlib.Core.List.{List}
 use native.Mathlib.Omega.{arith}
-use Rattle.examples.specs.declared.best.Best as code
+use Rattle.std.specs.Prelude.{Option}
 use Rattle.examples.specs.Best.{Best, best}
 use Rattle.examples.specs.Needs.{best_of, CanSeek}
-use Rattle.facts.specs.declared.decision.Decision.TheVariants.{Always, Never, Open}
 use Rattle.facts.specs.declared.record.Facts.{Facts}
 use Rattle.facts.specs.declared.asking.Asked.{Asked}
+use Rattle.facts.specs.declared.asking.Asked.TheVariants as asked
+use Rattle.facts.specs.declared.least.Sheet.{Sheet}
 use Rattle.facts.specs.Needs.{Askable}
-use Rattle.facts.specs.Record.{state, most_noes, Small, AskedOf}
+use Rattle.facts.specs.Record.{state, most_noes, Small, AskedOf, asked_decision}
 use Rattle.facts.specs.State.{free, no_to, yes_to, decide}
 use Rattle.store.specs.declared.entries.Entry.{Entry}
 use Rattle.store.specs.Layout.{question, entry, leaves}
@@ -42,8 +43,8 @@ module _ {s : List ℕ} {handle : ℕ} {f : Facts} {n : ℕ} (k : CanSeek s hand
     seek_ask eq = descent.can_ask k.descent not_leaf ee ej eq
 
 -- ---- once it is asked
--- the question q of a handle's entry, whose parts are y and m, was asked, and r is the answer
-pub record Sought (s : List ℕ) (handle : ℕ) (f : Facts) (n y m : ℕ) (q : Equation) (r : Asked) : Type 0 where
+-- the question q of a handle's entry, whose parts are y and m
+pub record Sought (s : List ℕ) (handle : ℕ) (f : Facts) (n y m : ℕ) (q : Equation) : Type 0 where
   pub can : CanSeek s handle f n
   pub not_never : handle ≢ 0
   pub not_always : handle ≢ 1
@@ -54,16 +55,15 @@ pub record Sought (s : List ℕ) (handle : ℕ) (f : Facts) (n y m : ℕ) (q : E
   pub number : ℕ
   pub number_is : number ≡ here.question
   pub question_is : q ≡ question s number
-  pub answered : AskedOf f q r
 
-module _ {s : List ℕ} {handle : ℕ} {f : Facts} {n y m : ℕ} {q : Equation} {r : Asked} (x : Sought s handle f n y m q r) where
+module _ {s : List ℕ} {handle : ℕ} {f : Facts} {n y m : ℕ} {q : Equation} (x : Sought s handle f n y m q) where
   inner : leaves ≤ handle
   inner = not_leaf x.can x.not_never x.not_always
 
   pub small_asked : Small most_count q
   small_asked = descent.small_no x.can.descent inner x.here_is x.number_is x.question_is
 
-  pub room_for_no : f.noes < most_noes
+  pub room_for_no : f.noes.count < most_noes
   room_for_no = descent.room_for_no x.can.descent inner x.here_is x.number_is x.question_is
 
   pub yes_falls : {t : ℕ} → handle ≡ t → y < t
@@ -78,21 +78,22 @@ module _ {s : List ℕ} {handle : ℕ} {f : Facts} {n y m : ℕ} {q : Equation} 
   pub skip_no : CanSeek s m f n
   skip_no = record { descent = descent.can_skip_no x.can.descent inner x.here_is x.no_is; few_fields = x.can.few_fields }
 
-  pub go_yes : r.decision ≡ Open → CanSeek s y r.yes n
-  go_yes d = record {
-    descent = descent.can_go_yes x.can.descent inner x.here_is x.number_is x.question_is x.answered d x.yes_is;
-    few_fields = x.can.few_fields;
-  }
+  module _ {g : Facts} (a : AskedOf f q (asked.Open g)) where
+    pub go_yes : CanSeek s y g n
+    go_yes = record {
+      descent = descent.can_go_yes x.can.descent inner x.here_is x.number_is x.question_is a x.yes_is;
+      few_fields = x.can.few_fields;
+    }
 
-  pub go_no : r.decision ≡ Open → {g : Facts} → state g ≡ no_to (state f) q → CanSeek s m g n
-  go_no d eg = record {
-    descent = descent.can_go_no x.can.descent inner x.here_is x.number_is x.question_is x.answered d x.no_is eg;
-    few_fields = x.can.few_fields;
-  }
+    pub go_no : {other : Facts} → state other ≡ no_to (state f) q → CanSeek s m other n
+    go_no eg = record {
+      descent = descent.can_go_no x.can.descent inner x.here_is x.number_is x.question_is a x.no_is eg;
+      few_fields = x.can.few_fields;
+    }
 
   -- ---- the best sheet, by the decision
-  asked : q ≡ question s x.here.question
-  asked = x.question_is ∙ ap (question s) x.number_is
+  here_asked : q ≡ question s x.here.question
+  here_asked = x.question_is ∙ ap (question s) x.number_is
 
   diagram : tree s handle ≡ node x.here.question (tree s y) (tree s m)
   diagram =
@@ -102,37 +103,37 @@ module _ {s : List ℕ} {handle : ℕ} {f : Facts} {n y m : ℕ} {q : Equation} 
       ∙ ap (λ (e : Entry). node e.question (tree s e.yes) (tree s e.no)) (sym x.here_is)
       ∙ ap₂ (λ (a b : ℕ). node x.here.question (tree s a) (tree s b)) (sym x.yes_is) (sym x.no_is)
 
-  decided : decide (state f) (question s x.here.question) ≡ r.decision
-  decided = sym (x.answered.decision_is ∙ ap (decide (state f)) asked)
+  decided : {r : Asked} → AskedOf f q r → decide (state f) (question s x.here.question) ≡ asked_decision r
+  decided a = sym (a.decision_is ∙ ap (decide (state f)) here_asked)
 
-  pub best_always : r.decision ≡ Always → (b : Best) {o : Best} → o ≡ best (question s) n (tree s y) (state f) b → o ≡ best (question s) n (tree s handle) (state f) b
+  pub best_always : AskedOf f q asked.Always → (b : Best) {o : Best} → o ≡ best (question s) n (tree s y) (state f) b → o ≡ best (question s) n (tree s handle) (state f) b
   unfolding best
-  best_always d b eo = rw (diagram, best, decided, d) eo
+  best_always a b eo = rw (diagram, best, decided a) eo
 
-  pub best_never : r.decision ≡ Never → (b : Best) {o : Best} → o ≡ best (question s) n (tree s m) (state f) b → o ≡ best (question s) n (tree s handle) (state f) b
+  pub best_never : AskedOf f q asked.Never → (b : Best) {o : Best} → o ≡ best (question s) n (tree s m) (state f) b → o ≡ best (question s) n (tree s handle) (state f) b
   unfolding best
-  best_never d b eo = rw (diagram, best, decided, d) eo
+  best_never a b eo = rw (diagram, best, decided a) eo
 
-  module _ (d : r.decision ≡ Open) (g : Facts) (eg : state g ≡ no_to (state f) q) where
-    no_state : state g ≡ no_to (state f) (question s x.here.question)
-    no_state = eg ∙ ap (no_to (state f)) asked
+  module _ {g : Facts} (a : AskedOf f q (asked.Open g)) (other : Facts) (eg : state other ≡ no_to (state f) q) where
+    no_state : state other ≡ no_to (state f) (question s x.here.question)
+    no_state = eg ∙ ap (no_to (state f)) here_asked
 
-    yes_state : state r.yes ≡ yes_to (state f) (question s x.here.question)
-    yes_state = x.answered.yes_is d ∙ ap (yes_to (state f)) asked
+    yes_state : state g ≡ yes_to (state f) (question s x.here.question)
+    yes_state = a.yes_is g refl ∙ ap (yes_to (state f)) here_asked
 
-    pub best_open : (b : Best) {first : Best} → first ≡ best (question s) n (tree s y) (state r.yes) b → {o : Best}
-        → o ≡ best (question s) n (tree s m) (state g) first → o ≡ best (question s) n (tree s handle) (state f) b
+    pub best_open : (b : Best) {first : Best} → first ≡ best (question s) n (tree s y) (state g) b → {o : Best}
+        → o ≡ best (question s) n (tree s m) (state other) first → o ≡ best (question s) n (tree s handle) (state f) b
     unfolding best
     best_open b {first} ef eo =
-        rw (diagram, best, decided, d) (eo ∙ ap₂ (λ st p. best (question s) n (tree s m) st p) no_state (ef ∙ ap (λ st. best (question s) n (tree s y) st b) yes_state))
+        rw (diagram, best, decided a) (eo ∙ ap₂ (λ st p. best (question s) n (tree s m) st p) no_state (ef ∙ ap (λ st. best (question s) n (tree s y) st b) yes_state))
 
-    pub best_open_turned : (b : code.Best) {first : Best} → first ≡ best (question s) n (tree s m) (state g) (best_of n b) → {o : Best}
-        → o ≡ best (question s) n (tree s y) (state r.yes) first → o ≡ best (question s) n (tree s handle) (state f) (best_of n b)
+    pub best_open_turned : (b : Option Sheet) {first : Best} → first ≡ best (question s) n (tree s m) (state other) (best_of n b) → {o : Best}
+        → o ≡ best (question s) n (tree s y) (state g) first → o ≡ best (question s) n (tree s handle) (state f) (best_of n b)
     best_open_turned b {first} ef eo =
         let h = x.can.descent.holds in
         let j = x.here.question in
         let turned = subst (λ st. best (question s) n (tree s y) (yes_to st (question s j)) (best (question s) n (tree s m) (no_to st (question s j)) (best_of n b))
         ≡ best (question s) n (node j (tree s y) (tree s m)) st (best_of n b)) (sym h.is)
         (best_turned (question s) n h.facts (subst (λ st. free st ≡ true) h.is h.fitted) j (tree s y) (tree s m) (best_of n b) (sized x.can b)
-        (ap (λ st. decide st (question s j)) (sym h.is) ∙ decided ∙ d)) in
+        (ap (λ st. decide st (question s j)) (sym h.is) ∙ decided a)) in
         rw diagram (eo ∙ ap₂ (λ st p. best (question s) n (tree s y) st p) yes_state (ef ∙ ap (λ st. best (question s) n (tree s m) st (best_of n b)) no_state) ∙ turned)

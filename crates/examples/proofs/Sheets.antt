@@ -1,55 +1,27 @@
--- Two sheets compared field by field: while the fields agree, the rest decides.
-use Prim.Native.Nat.{ℕ, zero, suc, ◌+◌, ◌-◌, ◌≤◌, ◌<◌}
+-- A sheet as a list: its counts one by one, and the part of an array that holds them.
+use Prim.Native.Nat.{ℕ, zero, suc, ◌+◌, ◌<◌}
 use mathlib.Core.Path.{◌≡◌, refl, sym, ap, ◌∙◌}
-use mathlib.Core.Bool.{true, false}
-use mathlib.Core.List.{◌∷◌}
+use mathlib.Core.List.{List}
 use native.Mathlib.Omega.{arith}
-use lib.ListN.{length}
+use lib.ListN.{length, get_or, take, drop, length-take, length-drop}
+use lib.Seq.{ext_get_or}
+use Rattle.std.proofs.lemmas.List.{get_or-take, get_or-drop}
 use Rattle.examples.specs.Best.{counts_from}
-use Rattle.terms.specs.Order.{lex}
-use Rattle.terms.proofs.QuestionOrder.{lex_less, lex_equal, lex_more}
 
 pub counts_length : (n i : ℕ) (c : ℕ → ℕ) → length (counts_from n i c) ≡ n
 unfolding counts_from
 counts_length zero i c = refl
 counts_length (suc n) i c = ap suc (counts_length n (i + 1) c)
 
--- one more field is left than after the next
-pub counts_next : (n i : ℕ) (c : ℕ → ℕ) → i ≤ n → counts_from (n + 1 - i) i c ≡ c i ∷ counts_from (n + 1 - (i + 1)) (i + 1) c
+pub counts_at : (n i j : ℕ) (c : ℕ → ℕ) → j < n → get_or (counts_from n i c) j 0 ≡ c (i + j)
 unfolding counts_from
-counts_next n i c h =
-    let e : n + 1 - i ≡ suc (n + 1 - (i + 1)) = omega arith in
-    rw (e, counts_from) refl
+counts_at zero i j c h = absurd (omega arith)
+counts_at (suc n) i zero c h = let e : i + 0 ≡ i = omega arith in rw e refl
+counts_at (suc n) i (suc j) c h = let e : i + 1 + j ≡ i + suc j = omega arith in counts_at n (i + 1) j c (omega arith) ∙ ap c e
 
--- the fields below i agree
-pub record Agreed (n : ℕ) (a b : ℕ → ℕ) (i : ℕ) : Type 0 where
-  pub from_one : 1 ≤ i
-  pub up_to : i ≤ n + 1
-  pub rest_decides : lex (counts_from n 1 a) (counts_from n 1 b) ≡ lex (counts_from (n + 1 - i) i a) (counts_from (n + 1 - i) i b)
-
-module _ {n : ℕ} {a b : ℕ → ℕ} where
-  pub agreed_none : Agreed n a b 1
-  agreed_none =
-      let e : n + 1 - 1 ≡ n = omega arith in
-      record { from_one = omega arith; up_to = omega arith; rest_decides = rw e refl }
-
-module _ {n : ℕ} {a b : ℕ → ℕ} {i : ℕ} (g : Agreed n a b i) where
-  module _ (h : i ≤ n) where
-    opened : lex (counts_from n 1 a) (counts_from n 1 b) ≡ lex (a i ∷ counts_from (n + 1 - (i + 1)) (i + 1) a) (b i ∷ counts_from (n + 1 - (i + 1)) (i + 1) b)
-    opened = g.rest_decides ∙ rw (counts_next n i a h, counts_next n i b h) refl
-
-    pub decides_before : a i < b i → true ≡ lex (counts_from n 1 a) (counts_from n 1 b)
-    decides_before l = sym (opened ∙ lex_less (a i) (b i) _ _ l)
-
-    pub decides_after : b i < a i → false ≡ lex (counts_from n 1 a) (counts_from n 1 b)
-    decides_after l = sym (opened ∙ lex_more (a i) (b i) _ _ l)
-
-    pub agreed_next : b i ≤ a i → a i ≤ b i → Agreed n a b (i + 1)
-    agreed_next l m = record { from_one = omega arith; up_to = omega arith; rest_decides = opened ∙ lex_equal (a i) (b i) _ _ (omega arith) }
-
-  pub agreed_all : n < i → false ≡ lex (counts_from n 1 a) (counts_from n 1 b)
-  unfolding counts_from lex
-  agreed_all h =
-      let up = g.up_to in
-      let e : n + 1 - i ≡ 0 = omega arith in
-      sym (g.rest_decides ∙ rw e refl)
+-- the n counts from the first field on, in a list with a place for each field and for field 0
+pub counts_part : (n : ℕ) (xs : List ℕ) → n < length xs → take n (drop 1 xs) ≡ counts_from n 1 (λ i. get_or xs i 0)
+counts_part n xs h =
+    let size : length (take n (drop 1 xs)) ≡ n = omega (arith, length-take n (drop 1 xs), length-drop 1 xs) in
+    ext_get_or 0 (take n (drop 1 xs)) (counts_from n 1 (λ i. get_or xs i 0)) (size ∙ sym (counts_length n 1 (λ i. get_or xs i 0)))
+    (λ j l. get_or-take n (drop 1 xs) j 0 (omega arith) ∙ get_or-drop 1 xs j 0 ∙ sym (counts_at n 1 j (λ i. get_or xs i 0) (omega arith)))

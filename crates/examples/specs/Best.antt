@@ -1,5 +1,5 @@
 -- The least sheet over the paths of a diagram that lead to always: at each such path the least sheet that fits its facts.
-use Rattle.std.specs.Prelude.{ℕ, zero, suc, ◌+◌, ◌≡◌, true, false, cond, List, [], ◌∷◌, length}
+use Rattle.std.specs.Prelude.{ℕ, zero, suc, ◌+◌, ◌≡◌, true, false, cond, List, [], ◌∷◌, length, Option, Some, None}
 use Rattle.facts.specs.declared.decision.Decision.TheVariants.{Always, Never, Open}
 use Rattle.facts.specs.Least.{least_sheet}
 use Rattle.facts.specs.State.{State, at, no_to, yes_to, decide}
@@ -18,19 +18,18 @@ abbrev pub sheet : ℕ → Valuation → List ℕ
 sheet n v = counts_from n 1 (at v)
 
 -- the best sheet so far, if there is one
-pub data Best : Type 0 where
-  none : Best
-  some : List ℕ → Best
+abbrev pub Best : Type 0
+Best = Option (List ℕ)
 
 -- a sheet of n counts, if there is one
 abbrev pub Sized : ℕ → Best → Type 0
-Sized n none = Unit {0}
-Sized n (some x) = length x ≡ n
+Sized n None = Unit {0}
+Sized n (Some x) = length x ≡ n
 
 -- "field 1 compared first": the earlier of the two
 abbrev pub lesser : Best → List ℕ → Best
-lesser none x = some x
-lesser (some y) x = cond (lex x y) (some x) (some y)
+lesser None x = Some x
+lesser (Some y) x = cond (lex x y) (Some x) (Some y)
 
 unfoldable pub best : (ℕ → Equation) → ℕ → Tree → State → Best → Best
 best ask n (leaf false) st b = b

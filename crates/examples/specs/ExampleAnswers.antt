@@ -1,10 +1,8 @@
 -- What an answer of example says, whatever the handle and the lent slice.
-use Rattle.std.specs.Prelude.{ℕ, ◌+◌, ◌*◌, ◌≤◌, ◌<◌, ◌≡◌, ◌↔◌, true, false, List, length, get_or}
-use Rattle.examples.specs.declared.answer.Example.{Example}
-use Rattle.examples.specs.declared.answer.Example.TheVariants.{Written, Refused}
+use Rattle.std.specs.Prelude.{ℕ, ◌+◌, ◌*◌, ◌≤◌, ◌<◌, ◌≡◌, ◌↔◌, true, false, List, length, get_or, Ok, Err}
 use Rattle.examples.specs.declared.answer.ExampleFault.TheVariants.{Nothing}
+use Rattle.examples.specs.Example.{Example}
 use Rattle.examples.specs.LargestGap.{list_gap}
-use Rattle.reading.specs.declared.answer.Read.TheVariants.{Satisfies}
 use Rattle.reading.specs.Read.{read_sheet}
 use Rattle.reading.specs.Sheet.{sheet_counts}
 use Rattle.store.specs.Layout.{field_count, is_handle}
@@ -17,7 +15,7 @@ use Rattle.terms.specs.Order.{lex}
 -- the counts written
 pub record FirstExample (limits : Limits) (s : List ℕ) (handle : ℕ) (sheet : List ℕ) : Type 0 where
   -- "1 if it satisfies the handle": reading them answers 1
-  pub satisfies : read_sheet limits s handle sheet ≡ Satisfies true
+  pub satisfies : read_sheet limits s handle sheet ≡ Ok true
   -- "the least satisfying sheet, field 1 compared first": every sheet of n natural counts that comes before fails the handle
   pub first : (other : List ℕ) → length other ≡ field_count s → lex other sheet ≡ true → meaning s handle (sheet_counts other) ≡ false
   -- "No count exceeds n × (K + 1)"
@@ -31,5 +29,5 @@ pub record NothingFits (s : List ℕ) (handle : ℕ) (out : List ℕ) : Type 0 w
   pub nothing : (v : Valuation) → meaning s handle v ≡ false
 
 pub record ExampleAnswers (limits : Limits) (s : List ℕ) (handle : ℕ) (out : List ℕ) (o : Outcome Example) : Type 0 where
-  pub written : o.answer ≡ Written → FirstExample limits s handle o.words
-  pub none : (o.answer ≡ Refused Nothing) ↔ NothingFits s handle out
+  pub written : o.answer ≡ Ok tt → FirstExample limits s handle o.words
+  pub none : (o.answer ≡ Err Nothing) ↔ NothingFits s handle out

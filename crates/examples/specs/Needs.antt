@@ -1,7 +1,6 @@
 -- What the code relies on, and no claim.
-use Rattle.std.specs.Prelude.{ℕ, ◌+◌, ◌≤◌, ◌<◌, ◌≡◌, Bool, true, false, cond, not, List, length, get_or}
-use Rattle.examples.specs.declared.best.Best as code
-use Rattle.examples.specs.Best.{counts_from, sheet, Best, none, some}
+use Rattle.std.specs.Prelude.{ℕ, ◌+◌, ◌≤◌, ◌<◌, ◌≡◌, Bool, true, false, not, List, length, get_or, Option, Some, None}
+use Rattle.examples.specs.Best.{counts_from, sheet, Best}
 use Rattle.facts.specs.declared.least.Sheet.{Sheet}
 use Rattle.facts.specs.declared.record.Facts.{Facts}
 use Rattle.facts.specs.Least.{least_sheet}
@@ -17,15 +16,16 @@ use Rattle.verdicts.specs.Needs.{CanDescend}
 
 -- no sheet that fits the facts is before the best so far
 abbrev pub beaten : ℕ → State → Best → Bool
-beaten n st none = false
-beaten n st (some y) = not (lex (sheet n (least_sheet n st)) y)
+beaten n st None = false
+beaten n st (Some y) = not (lex (sheet n (least_sheet n st)) y)
 
 -- ---- the code's sheets
 abbrev pub sheet_of : ℕ → Sheet → List ℕ
 sheet_of n s = counts_from n 1 (λ i. get_or s.counts i 0)
 
-abbrev pub best_of : ℕ → code.Best → Best
-best_of n b = cond b.found (some (sheet_of n b.sheet)) none
+abbrev pub best_of : ℕ → Option Sheet → Best
+best_of n (Some x) = Some (sheet_of n x)
+best_of n None = None
 
 pub record Fields (n : ℕ) : Type 0 where
   pub few : n ≤ last_field

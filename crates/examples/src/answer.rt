@@ -1,16 +1,11 @@
-// The answer of example, and document 01's numbers for it.
+// Why no example is written, and document 01's numbers for it. An example's result is always 0.
 ghost use Rattle.std.specs.Prelude.{◌≡◌};
 ghost use Rattle.examples.specs.Example as spec;
 
-// What an example answers: that the sheet was written, or why not.
-#[derive(Clone, Copy)]
-pub enum Example {
-    Written,
-    Refused(ExampleFault),
-}
+use terms::Refusal;
 
 // Why no example is written.
-#[derive(Clone, Copy)]
+#[derive(Clone, Copy, Debug, PartialEq, Eq)]
 pub enum ExampleFault {
     NotSound,
     NoHandle,
@@ -18,24 +13,15 @@ pub enum ExampleFault {
     Nothing,
 }
 
-// The number of a fault.
-fn example_fault_number(f: ExampleFault) -> u32
-    ensures { result ≡ spec.example_fault_number f }
-{
-    match f {
-        ExampleFault::NotSound => 22,
-        ExampleFault::NoHandle => 41,
-        ExampleFault::WrongLength => 23,
-        ExampleFault::Nothing => 52,
-    }
-}
+impl Refusal for ExampleFault {
+    ghost number_of = { spec.example_fault_number };
 
-// An example's number. Its result is always 0.
-pub fn example_number(e: Example) -> u32
-    ensures { result ≡ spec.example_number e }
-{
-    match e {
-        Example::Written => 0,
-        Example::Refused(f) => example_fault_number(f),
+    fn number(self) -> u32 {
+        match self {
+            ExampleFault::NotSound => 22,
+            ExampleFault::NoHandle => 41,
+            ExampleFault::WrongLength => 23,
+            ExampleFault::Nothing => 52,
+        }
     }
 }

@@ -8,14 +8,15 @@ ghost use Rattle.store.specs.Layout as layout;
 ghost use Rattle.store.specs.Tree as tree;
 ghost use Rattle.terms.specs.Order.{lex};
 
-use facts::{Decision, Facts, Sheet, ask, least_sheet, no};
+use facts::{Asked, Facts, Sheet, ask, least_sheet, no};
 use store::{LEAVES, entry_of, question_at, wide};
 
-// The least sheet that was found so far, if any.
-#[derive(Clone, Copy)]
-pub struct Best {
-    pub found: bool,
-    pub sheet: Sheet,
+// The counts of the fields 1 to n, as they are compared.
+fn counts(sheet: &Sheet, n: u32) -> &[u32]
+    requires { needs.Fields n }
+    ensures { result.now ≡ needs.sheet_of n sheet.now }
+{
+    &sheet.counts[1..wide(n) + 1]
 }
 
 // Whether sheet a is before sheet b, compared from field 1 to field n.
@@ -23,53 +24,34 @@ fn is_before(n: u32, a: Sheet, b: Sheet) -> bool
     requires { needs.Fields n }
     ensures { result ≡ lex (needs.sheet_of n a) (needs.sheet_of n b) }
 {
-    let mut i: u32 = 1;
-    while i <= n {
-        let at = i as usize;
-        let x = a.counts[at];
-        let y = b.counts[at];
-        if x < y {
-            return true;
-        }
-        if y < x {
-            return false;
-        }
-        i += 1;
-    }
-    false
+    counts(&a, n) < counts(&b, n)
 }
 
-// The lesser of the best sheet so far and another.
-fn lesser(n: u32, best: Best, sheet: Sheet) -> Best
+// The lesser of the best sheet so far, if any, and another.
+fn lesser(n: u32, best: Option<Sheet>, sheet: Sheet) -> Option<Sheet>
     requires { needs.Fields n }
     ensures { needs.best_of n result ≡ spec.lesser (needs.best_of n best) (needs.sheet_of n sheet) }
 {
-    if best.found {
-        if is_before(n, sheet, best.sheet) {
-            return Best { found: true, sheet };
-        }
-        return best;
+    match best {
+        Some(so_far) if !is_before(n, sheet, so_far) => best,
+        _ => Some(sheet),
     }
-    Best { found: true, sheet }
 }
 
 // Whether no sheet that fits the facts is before the best so far.
-fn is_beaten(n: u32, best: Best, f: Facts) -> bool
+fn is_beaten(n: u32, best: Option<Sheet>, f: Facts) -> bool
     requires { HasLeast f n }
     ensures { result ≡ needs.beaten n (facts.state f) (needs.best_of n best) }
 {
-    if best.found {
-        if is_before(n, least_sheet(f, n), best.sheet) {
-            return false;
-        }
-        return true;
+    match best {
+        Some(so_far) => !is_before(n, least_sheet(f, n), so_far),
+        None => false,
     }
-    false
 }
 
 // The least sheet that fits the facts and leads from a handle to always, or the best so far if that is before it. A handle whose facts leave
 // no better sheet is not walked; of two parts the one with the lesser sheet comes first, so that the other is likely to be beaten.
-pub fn best_from(s: &[u32], handle: usize, f: Facts, n: u32, best: Best) -> Best
+pub fn best_from(s: &[u32], handle: usize, f: Facts, n: u32, best: Option<Sheet>) -> Option<Sheet>
     requires { needs.CanSeek s.now handle f n }
     ensures { needs.best_of n result ≡ spec.best (layout.question s.now) n (tree.tree s.now handle) (facts.state f) (needs.best_of n best) }
 {
@@ -86,13 +68,10 @@ pub fn best_from(s: &[u32], handle: usize, f: Facts, n: u32, best: Best) -> Best
     let yes_part = wide(e.yes);
     let no_part = wide(e.no);
     let q = question_at(s, wide(e.question));
-    let asked = ask(f, q);
-    let d = asked.decision;
-    let g = asked.yes;
-    match d {
-        Decision::Always => best_from(s, yes_part, f, n, best),
-        Decision::Never => best_from(s, no_part, f, n, best),
-        Decision::Open => {
+    match ask(f, q) {
+        Asked::Always => best_from(s, yes_part, f, n, best),
+        Asked::Never => best_from(s, no_part, f, n, best),
+        Asked::Open(g) => {
             let other = no(f, q);
             if is_before(n, least_sheet(other, n), least_sheet(g, n)) {
                 let first = best_from(s, no_part, other, n, best);

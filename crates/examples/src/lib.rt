@@ -5,6 +5,6 @@ mod answer;
 mod best;
 mod giving;
 
-pub use answer::{Example, ExampleFault, example_number};
-pub use best::{Best, best_from};
+pub use answer::ExampleFault;
+pub use best::best_from;
 pub use giving::{example_of, example_within};

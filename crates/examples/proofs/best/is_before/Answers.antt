@@ -1,18 +1,13 @@
-use borrow.Author.Rules.{rules}
-use Rattle.examples.proofs.Sheets.{agreed_none, decides_before, decides_after, agreed_next, agreed_all}
+-- `is_before` meets its contract: it compares two lists of one length.
+use mathlib.Core.Path.{◌∙◌, sym, ap, ap₂}
+use lib.ListN.{length}
+use Rattle.terms.specs.Order.{lex}
+use Rattle.terms.proofs.ListsCompared.{lex_is}
+use Rattle.examples.proofs.Sheets.{counts_length}
 use Rattle.examples.proofs.best.is_before.Goals as goal
 
-pub loop-i-init : goal.loop-i-init
-loop-i-init c = search (rules, agreed_none)
-
-pub returns-then-x-y : goal.returns-then-x-y
-returns-then-x-y c = search (rules, decides_before)
-
-pub returns-then-y-x : goal.returns-then-y-x
-returns-then-y-x c = search (rules, decides_after)
-
-pub loop-i-preserved : goal.loop-i-preserved
-loop-i-preserved c = search (rules, agreed_next)
-
 pub returns : goal.returns
-returns c = search (rules, agreed_all)
+returns c =
+    let a = c.counts.ensures in
+    let b = c.counts-2.ensures in
+    c.lt.ensures ∙ lex_is _ _ (ap length a ∙ counts_length c.args.n 1 _ ∙ sym (ap length b ∙ counts_length c.args.n 1 _)) ∙ ap₂ lex a b
