@@ -1,11 +1,10 @@
 -- The index over a plain function f from numbers to buckets: it starts empty, a number is put into it, and a chain is walked.
 use Prim.Native.Nat.{ℕ, ◌+◌, ◌≤◌, ◌<◌}
-use mathlib.Core.Path.{◌≡◌, ◌∙◌, ap, sym}
-use mathlib.Core.Bool.{Bool, true, false, false≢true}
+use mathlib.Core.Path.{◌≡◌}
+use mathlib.Core.Bool.{Bool, true}
 use native.Mathlib.Omega.{arith}
 use lib.ListN.{replicate, length-replicate, get_or-replicate}
 use Rattle.index.specs.Needs.{Top, Chains}
-use Rattle.terms.proofs.Cases.{by_eq}
 
 module _ (f : ℕ → ℕ) where
   top_none : (b : ℕ) → Top f b 0 0
@@ -26,18 +25,3 @@ pub record Walk (f : ℕ → ℕ) (test : ℕ → Bool) (b k p : ℕ) : Type 0 w
   pub low : p ≤ k
   pub here : (i : ℕ) → p ≡ i + 1 → f i ≡ b
   pub left : (j : ℕ) → j < k → test j ≡ true → j < p
-
-module _ (f : ℕ → ℕ) (test : ℕ → Bool) (b k : ℕ) (lies : (j : ℕ) → test j ≡ true → f j ≡ b) where
-  pub walk_step : {p p' : ℕ} → Walk f test b k p → (i : ℕ) → p ≡ i + 1 → test i ≡ false → Top f (f i) i p' → Walk f test b k p'
-  walk_step {p} {p'} w i e fails t =
-      let l = w.low in
-      let m = t.low in
-      record {
-        low = omega arith;
-        here = λ j d. t.here j d ∙ w.here i e;
-        left = λ j h q.
-            let s = w.left j h q in
-            by_eq (λ _. j < p') j i
-            (λ d. absurd (false≢true (sym fails ∙ ap test (sym d) ∙ q)))
-            (λ d. t.all j (omega arith) (lies j q ∙ sym (w.here i e)));
-      }
