@@ -1,6 +1,6 @@
 -- Each call in the walk finds what it asks for: the question is one of the list, the facts hold one answer more at most, and the words that
 -- the yes part leaves are fit for the no part.
-use Prim.Native.Nat.{ℕ, ◌+◌, ◌-◌, ◌≤◌, ◌<◌}
+use Prim.Native.Nat.{ℕ, ◌+◌, ◌-◌, ◌≤◌}
 use mathlib.Core.Path.{◌≡◌, refl, sym, subst}
 use mathlib.Core.Logic.{◌≢◌}
 use mathlib.Core.List.{List}
