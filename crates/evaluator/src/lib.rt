@@ -35,5 +35,4 @@ pub use opening::{Opening, expect_opened};
 pub use raw_lists::{expect_raw_opened, found_in};
 pub use refusals::Refusal;
 pub use rules::{Row, check_table};
-pub use truth::holds;
 pub use words::{Words, at, copy, first, put};

@@ -1,5 +1,5 @@
 // What opening must answer, and the words that it must leave.
-use crate::equations::Equation;
+use crate::equations::{Equation, Equations};
 use crate::layout::{HEADING, Store};
 use crate::limits::Limits;
 use crate::orders::Order;
@@ -41,8 +41,7 @@ impl<'a> Opening<'a> {
     // The questions of the list, each of which stands after the one before it.
     fn check_questions(self, limits: Limits, order: Order) -> Result<(), Refusal> {
         let mut before = 0;
-        for pair in self.list.as_chunks::<2>().0 {
-            let question = Equation::from(*pair);
+        for question in Equations(self.list) {
             check_question(limits, self.n, question)?;
             let place = order.place(question);
             if place <= before {
