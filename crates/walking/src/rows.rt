@@ -23,6 +23,7 @@ fn part_value(part: Part, before: &[Decision]) -> Decision
 }
 
 // The value of the i-th row, given what is said of the rows before it.
+#[tactic(auto, using(crate::proofs::RowValues::asks_ready))]
 fn row_value(table: &[u32], i: usize, before: &[Decision], f: &Facts) -> Decision
     requires { AsksRow table.now i before.now f.now }
     ensures { result ≡ spec.row_value (facts.state f.now) (said before.now) (row table.now i) }
