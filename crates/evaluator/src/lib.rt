@@ -27,7 +27,7 @@ pub use answers::Answer;
 pub use asking::{expect_example, expect_read, expect_verdict, expect_written, is_example};
 pub use calls::Call;
 pub use entries::{Entry, put_entry};
-pub use equations::{Equation, field, is_beyond, steps};
+pub use equations::{Equation, field, steps};
 pub use grid::Sheet;
 pub use layout::{HEADING, ORDER_PLACE, Store, USED_PLACE};
 pub use limits::{Limits, MOST_STEPS, Side};

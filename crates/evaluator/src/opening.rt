@@ -27,7 +27,7 @@ fn check_question(limits: Limits, n: u32, question: Equation) -> Result<(), Refu
 
 impl<'a> Opening<'a> {
     // What opening tests first, with a list of questions and with a raw one. Gives the order.
-    pub fn check_form(self, limits: Limits) -> Result<Order, Refusal> {
+    pub(crate) fn check_form(self, limits: Limits) -> Result<Order, Refusal> {
         if self.n > limits.fields {
             return Err(Refusal::TooManyFields);
         }
@@ -53,7 +53,7 @@ impl<'a> Opening<'a> {
     }
 
     // Opening a store of so many words.
-    pub fn check(self, limits: Limits, length: usize) -> Result<(), Refusal> {
+    pub(crate) fn check(self, limits: Limits, length: usize) -> Result<(), Refusal> {
         let order = self.check_form(limits)?;
         if self.list.len() / 2 > limits.questions as usize {
             return Err(Refusal::TooManyQuestions);
