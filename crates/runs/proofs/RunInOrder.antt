@@ -8,7 +8,7 @@ use mathlib.Core.Bool.{Bool, true}
 use mathlib.Core.List.{List}
 use borrow.Author.Tests.{lt-ltb, ltb-true, eq-eqb}
 use lib.ListN.{length}
-use Rattle.examples.specs.Best.{Best, none, some}
+use Rattle.examples.specs.Best.{Best}
 use Rattle.examples.specs.Example.{given, best_sheet, example}
 use Rattle.examples.specs.ExampleAnswers.{ExampleAnswers}
 use Rattle.operations.specs.Handles.{Call, Pair, Books, opened_books, run, In}
@@ -18,7 +18,7 @@ use Rattle.reading.specs.Sheet.{sheet_counts}
 use Rattle.runs.specs.InOrder.{InOrder}
 use Rattle.runs.specs.SheetOrNone.{SheetOrNone}
 use Rattle.runs.specs.RuleExample.{RuleExample}
-use Rattle.std.specs.Prelude.{Ok, Err}
+use Rattle.std.specs.Prelude.{Ok, Err, Some, None}
 use Rattle.store.specs.Layout.{field_count, used, leaves, is_handle}
 use Rattle.store.specs.Meaning.{meaning}
 use Rattle.store.specs.Open.{opening}
@@ -90,8 +90,8 @@ module _ (limits : Limits) (order : ListOrder) (n : ℕ) (list s : List ℕ) (e 
       answer_is = rw (is, u, eq-eqb (length out) (field_count books.words) (l ∙ sym run_in_order.fields))
 
       go : (b : Best) → best_sheet books.words handle ≡ b → SheetOrNone (example limits books.words handle out)
-      go none d = inr (ap (λ o. o.answer) (answer_is ∙ ap (λ b. given b out) d))
-      go (some x) d = inl (ap (λ o. o.answer) (answer_is ∙ ap (λ b. given b out) d))
+      go None d = inr (ap (λ o. o.answer) (answer_is ∙ ap (λ b. given b out) d))
+      go (Some x) d = inl (ap (λ o. o.answer) (answer_is ∙ ap (λ b. given b out) d))
 
   -- ---- a rule of the ledger's
   module _ (p : Pair) (i : In p books.ledger) where

@@ -14,13 +14,15 @@ pub struct Answer {
     pub result: u32,
 }
 
-// The answer of any operation, by what it answers and the result that this gives.
-pub fn answer<T: Copy, F: Refusal>(given: Result<T, F>, gives: u32) -> Answer
-    ensures { result ≡ spec.answer_with (answer_number F.number_of given) gives }
-{
-    Answer {
-        number: answer_number(given),
-        result: gives,
+impl Answer {
+    // The answer of any operation, by what it answers and the result that this gives.
+    pub fn of<T: Copy, F: Refusal>(given: Result<T, F>, gives: u32) -> Answer
+        ensures { result ≡ spec.answer_with (answer_number F.number_of given) gives }
+    {
+        Answer {
+            number: answer_number(given),
+            result: gives,
+        }
     }
 }
 
@@ -28,5 +30,5 @@ pub fn answer<T: Copy, F: Refusal>(given: Result<T, F>, gives: u32) -> Answer
 pub fn built_answer(built: Result<u32, BuildFault>) -> Answer
     ensures { result ≡ spec.built_answer built }
 {
-    answer(built, built.unwrap_or(0))
+    Answer::of(built, built.unwrap_or(0))
 }

@@ -9,7 +9,7 @@ ghost use Rattle.terms.specs.Limits as limit;
 ghost use Rattle.verdicts.specs.Verdict.{verdict};
 ghost use Rattle.writing.specs.WriteBack.{write_back};
 
-use crate::answers::{Answer, answer};
+use crate::answers::Answer;
 use examples::example_of;
 use reading::{read, read_result};
 use store::verdict_result;
@@ -22,7 +22,7 @@ pub extern "C" fn sheet_verdict(store: &[u32], a: u32) -> Answer
     ensures { result ≡ spec.verdict_answer (verdict limit.store_limits store.now a) }
 {
     let verdict = verdict_of(store, a);
-    answer(verdict, verdict_result(verdict))
+    Answer::of(verdict, verdict_result(verdict))
 }
 
 // Writes the least sheet that satisfies a handle.
@@ -31,7 +31,7 @@ pub extern "C" fn sheet_example(store: &[u32], a: u32, sheet: &mut [u16]) -> Ans
     ensures { outcome result sheet.new
         ≡ answered spec.example_answer (example limit.store_limits store.now a sheet.old) }
 {
-    answer(example_of(store, a, sheet), 0)
+    Answer::of(example_of(store, a, sheet), 0)
 }
 
 // Whether a sheet satisfies a handle.
@@ -40,7 +40,7 @@ pub extern "C" fn sheet_read(store: &[u32], a: u32, sheet: &[u16]) -> Answer
     ensures { result ≡ spec.read_answer (read_sheet limit.store_limits store.now a sheet.now) }
 {
     let given = read(store, a, sheet);
-    answer(given, read_result(given))
+    Answer::of(given, read_result(given))
 }
 
 // Writes a handle back as a rule table.
@@ -50,5 +50,5 @@ pub extern "C" fn sheet_write_back(store: &[u32], a: u32, rule: &mut [u32]) -> A
         ≡ answered spec.written_answer (write_back limit.store_limits store.now a rule.old) }
 {
     let written = write_back(store, a, rule);
-    answer(written, written_result(written))
+    Answer::of(written, written_result(written))
 }

@@ -4,7 +4,7 @@ ghost use Rattle.normal_form.specs.Check.{check};
 ghost use Rattle.normal_form.specs.Limits.{table_limits};
 ghost use Rattle.sheet.specs.Answers as spec;
 
-use crate::answers::{Answer, answer};
+use crate::answers::Answer;
 use checking::check_normal_form;
 use store::verdict_result;
 
@@ -14,5 +14,5 @@ pub extern "C" fn sheet_check_normal_form(table: &[u32], root: u32) -> Answer
     ensures { result ≡ spec.checked_answer (check table_limits table.now root) }
 {
     let checked = check_normal_form(table, root);
-    answer(checked, verdict_result(checked))
+    Answer::of(checked, verdict_result(checked))
 }
