@@ -1,7 +1,7 @@
 // Whether a store is sound: the test that every later operation makes first.
 #![tactic(auto)]
 
-ghost use Rattle.std.specs.Prelude.{◌≡◌, ◌+◌, ◌<◌, ◌≤◌, drop, length};
+ghost use Rattle.std.specs.Prelude.{◌≡◌, ◌+◌, ◌<◌, drop};
 ghost use Rattle.index.specs.Needs.{EntriesFit};
 ghost use Rattle.soundness.specs.Needs.{numbers_sound, body_sound, NamesEntry};
 ghost use Rattle.store.specs.Sound as spec;
@@ -77,10 +77,9 @@ fn entries_sound(s: &[u32], start: usize, used: usize) -> bool
 
 // Whether the words from a place on are zero.
 fn zero_from(s: &[u32], from: usize) -> bool
-    requires { from ≤ length s.now }
     ensures { result ≡ spec.all_zero (drop from s.now) }
 {
-    s[from..].iter().all(|word| *word == 0)
+    s.iter().skip(from).all(|word| *word == 0)
 }
 
 // Whether the first `used` entries keep their rules, no two of them are equal, and the words after them are zero.

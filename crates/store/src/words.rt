@@ -11,12 +11,15 @@ pub const HEADING: usize = 4;
 // The handles of the leaves never and always come before those of the entries.
 pub const LEAVES: usize = 2;
 
-// A word as a number of words, of entries or of handles.
+// A word as a number of words, of entries or of handles. A function, where `as` says no more: its name tells at fifty places that nothing is cut off.
 pub fn wide(word: u32) -> usize
     ensures { result ≡ word }
 {
     word as usize
 }
+
+// The heading's length, or the list's, is asked for by each of these functions, and by no type around the words: a store is lent to be changed too, and a
+// view of its words with the fact in it would be made anew after each write, at every caller, for one line of each contract here.
 
 // The number of fields.
 pub fn field_count(s: &[u32]) -> u32

@@ -77,7 +77,8 @@ fn row_fault(limits: TermLimits, s: &[u32], table: &[u32], i: usize) -> Result<(
     shape_fault(limits, s, decode(r))
 }
 
-// What is wrong with the first row that has a fault.
+// What is wrong with the first row that has a fault. A loop over rows with `?`, as list_fault has over questions: one function of a closure for both would
+// say a law in each caller's proof that these two promises say at once.
 fn rows_fault(limits: TermLimits, s: &[u32], table: &[u32]) -> Result<(), TableFault>
     requires { layout.entries_start s.now ≤ length s.now }
     ensures { result

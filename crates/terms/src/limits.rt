@@ -27,7 +27,8 @@ pub struct TermLimits {
     pub steps: Steps,
 }
 
-// What a store may hold: the limits of its terms, and the largest numbers of questions and of entries.
+// What a store may hold: the limits of its terms, and the largest numbers of questions and of entries. FitLimits is not its invariant: simplify and opening
+// answer by any limits, and an invariant would ask more of whoever makes them.
 #[derive(Clone, Copy, Debug, PartialEq, Eq)]
 pub struct Limits {
     pub terms: TermLimits,

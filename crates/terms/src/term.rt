@@ -53,7 +53,7 @@ impl Equation {
     }
 }
 
-// The word that holds a term.
+// The word that holds a term; not a From, since a term of more steps than a word holds has none.
 pub fn word_of(t: Term) -> u32
     requires { words.word_of t < 2 ^ 32 }
     ensures { result ≡ words.word_of t }

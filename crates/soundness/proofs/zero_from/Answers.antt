@@ -1,7 +1,7 @@
 -- `zero_from` meets its contract: the words from the place on are tested one by one.
-use Rattle.std.proofs.Common.{rules, arith, ◌∙◌, ◌≡◌, ◌-◌, take, drop, length, length-drop}
-use Rattle.std.proofs.lemmas.List.{take_all}
+use Rattle.std.proofs.Common.{rules, ◌∙◌, ◌≡◌, drop, ap}
 use Rattle.std.proofs.lemmas.Iterator.{YieldsList-from_slice}
+use Rattle.std.proofs.lemmas.Iterator.Adapters.{YieldsList-from_skip}
 use Rattle.std.proofs.lemmas.Iterator.Search.{all_from_yields_List}
 use borrow.Author.Tests.{tests}
 use lib.Dec.{eqb}
@@ -10,7 +10,6 @@ use Rattle.soundness.proofs.zero_from.Goals as goal
 
 pub returns : goal.returns
 returns c =
-    let s = c.args.s.now in
-    let rest = drop c.args.from s in
-    let whole : take (length s - c.args.from) rest ≡ rest = take_all _ rest (omega (arith, length-drop c.args.from s)) in
-    all_from_yields_List (λ w. eqb w 0) _ _ _ c.all.ensures.ran (YieldsList-from_slice rest (c.iter.ensures.rest ∙ whole)) (λ x b q k. search (rules, tests)) ∙ list_all-zero rest
+    let from = c.args.from in
+    let words = ap (λ i. i.rest.now) c.skip.ensures.source ∙ c.iter.ensures.rest in
+    all_from_yields_List (λ w. eqb w 0) _ _ _ c.all.ensures.ran (YieldsList-from_skip {s = c.skip.result} from (YieldsList-from_slice c.args.s.now words) c.skip.ensures.count) (λ x b q k. search (rules, tests)) ∙ list_all-zero (drop from c.args.s.now)
