@@ -1,6 +1,6 @@
 -- Sets of fields as binary digits: the digit of a union is set if one of the two is, and a power of two has one digit. So the sets that the pass up leaves have the
 -- digits that the flags of each field are.
-use Prim.Native.Nat.{ℕ, zero, suc, ◌+◌, ◌-◌, ◌*◌, ◌/◌, ◌%◌, ◌^◌, ◌≤◌, ◌<◌, max}
+use Prim.Native.Nat.{ℕ, zero, suc, ◌+◌, ◌-◌, ◌*◌, ◌/◌, ◌%◌, ◌^◌, ◌≤◌, max}
 use mathlib.Core.Path.{◌≡◌, refl, sym, ap, ap₂, ◌∙◌}
 use mathlib.Core.Bool.{false, ◌||◌}
 use mathlib.Core.List.{List}
@@ -11,10 +11,10 @@ use borrow.Author.Tests.{eq-eqb, ne_eqb}
 use lib.Bits.{bit_or, or_step, or_shr}
 use lib.Dec.{eqb}
 use lib.ListN.{length, get_or, length-set, length-replicate}
-use lib.Pow.{pow_pos, pow-lt, pow-add, shl_exact}
+use lib.Pow.{pow_pos, pow-lt, pow-add}
 use lib.Seq.{get_or-set_same, get_or-set_other}
 use Rattle.checking.specs.FieldSets.{has_field, both_fields, fields_at, field_sets}
-use Rattle.checking.specs.Needs.{most_handles, bits}
+use Rattle.checking.specs.Needs.{most_handles}
 use Rattle.normal_form.proofs.NamedFlags.{flags_length}
 use Rattle.normal_form.specs.Limits.{most_table_entries, table_limits}
 use Rattle.normal_form.specs.Named.{named}
@@ -24,9 +24,6 @@ use Rattle.terms.proofs.Cases.{by_eq}
 use Rattle.terms.proofs.OneValue.{all_alike}
 
 -- ---- one digit
-pub shifted_one : (f : ℕ) → f < bits → (1 * 2 ^ f) % 2 ^ bits ≡ 2 ^ f
-shifted_one f h = shl_exact 1 f bits (omega arith) (omega arith) ∙ omega arith
-
 last_digit : (a b : ℕ) → eqb (bit_or a b % 2) 1 ≡ (eqb (a % 2) 1 || eqb (b % 2) 1)
 last_digit a b =
     let m : bit_or a b % 2 ≡ max (a % 2) (b % 2) = omega (arith, or_step a b) in

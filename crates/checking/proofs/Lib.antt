@@ -1,5 +1,2 @@
-pub mod EntryWays
-pub mod MarkWays
 pub mod FieldSets
-pub mod NameWays
-pub mod CheckWays
+pub mod LowerParts

@@ -1,36 +1,14 @@
 // The check, in the order of its numbers. No entry is read by a handle before every handle is known to be lower than its entry's own.
 ghost use Rattle.std.specs.Prelude.{◌≡◌};
-ghost use Rattle.checking.specs.Needs.{AllHaveParts, Rooted, Shaped};
 ghost use Rattle.normal_form.specs.Check as rule;
 ghost use Rattle.normal_form.specs.Limits.{table_limits};
 
+use crate::diagram::Diagram;
 use crate::differing::TableEntry;
-use crate::entries::{CAPACITY, ENTRY_LENGTH};
-use crate::handles::all_handles_lower;
-use crate::marking::all_reachable;
-use crate::naming::lefts_apart;
-use crate::ordering::all_ordered;
-use crate::questions::all_terms_kept;
+use crate::table::Table;
 use index::entries_differ;
 use normal_form::CheckFault;
-use store::{LEAVES, Verdict, wide};
-
-// Number 81: whether the words are a whole number of entries, not too many, and the root is one of their handles.
-#[tactic(auto, unfolding(normal_form::specs::Check::shape_kept))]
-fn shape_kept(t: &[u32], root: u32) -> bool
-    ensures { result ≡ rule.shape_kept table_limits t.now root }
-{
-    let count = t.len() / ENTRY_LENGTH;
-    t.len() % ENTRY_LENGTH == 0 && count <= CAPACITY && wide(root) < count + LEAVES
-}
-
-// Number 86: whether none of Definition 28's rules applies.
-fn no_rule_applies(t: &[u32], count: usize) -> bool
-    requires { AllHaveParts t.now count }
-    ensures { result ≡ rule.no_rule_applies table_limits t.now }
-{
-    all_ordered(t, count) && lefts_apart(t, count)
-}
+use store::Verdict;
 
 // The verdict of the root of an accepted table.
 fn root_verdict(root: u32) -> Verdict
@@ -43,35 +21,46 @@ fn root_verdict(root: u32) -> Verdict
     }
 }
 
-// The conditions 84 to 86, of entries whose handles can be followed.
-fn check_diagram(t: &[u32], root: u32, count: usize) -> Result<Verdict, CheckFault>
-    requires { Rooted t.now root count }
-    ensures { result ≡ rule.check_diagram table_limits t.now root }
-{
-    if !entries_differ::<TableEntry>(t, 0, count) {
-        return Err(CheckFault::EqualEntries);
+impl Diagram<'_> {
+    // Number 86: whether none of Definition 28's rules applies.
+    #[tactic(auto, unfolding(normal_form::specs::Check::no_rule_applies))]
+    fn no_rule_applies(self) -> bool
+        ensures { result ≡ rule.no_rule_applies table_limits self.entry.table.words.now }
+    {
+        self.all_ordered() && self.lefts_apart()
     }
-    if !all_reachable(t, wide(root), count) {
-        return Err(CheckFault::NotReachable);
+
+    // The conditions 84 to 86.
+    #[tactic(auto, unfolding(normal_form::specs::Check::check_diagram))]
+    fn check(self) -> Result<Verdict, CheckFault>
+        ensures { result ≡ rule.check_diagram table_limits self.entry.table.words.now self.entry.table.root }
+    {
+        let table = self.table;
+        if !entries_differ::<TableEntry>(table.words, 0, table.count()) {
+            return Err(CheckFault::EqualEntries);
+        }
+        if !self.all_reachable() {
+            return Err(CheckFault::NotReachable);
+        }
+        if !self.no_rule_applies() {
+            return Err(CheckFault::RuleApplies);
+        }
+        Ok(root_verdict(table.root))
     }
-    if !no_rule_applies(t, count) {
-        return Err(CheckFault::RuleApplies);
-    }
-    Ok(root_verdict(root))
 }
 
-// The conditions 82 to 86.
-fn check_entries(t: &[u32], root: u32, count: usize) -> Result<Verdict, CheckFault>
-    requires { Shaped t.now root count }
-    ensures { result ≡ rule.check_entries table_limits t.now root }
-{
-    if !all_terms_kept(t, count) {
-        return Err(CheckFault::BadTerm);
+impl Table<'_> {
+    // The conditions 82 to 86.
+    #[tactic(auto, unfolding(normal_form::specs::Check::check_entries))]
+    fn check(self) -> Result<Verdict, CheckFault>
+        ensures { result ≡ rule.check_entries table_limits self.entry.words.now self.entry.root }
+    {
+        if !self.all_terms_kept() {
+            return Err(CheckFault::BadTerm);
+        }
+        let diagram = Diagram::of(self).ok_or(CheckFault::HandleNotLower)?;
+        diagram.check()
     }
-    if !all_handles_lower(t, count) {
-        return Err(CheckFault::HandleNotLower);
-    }
-    check_diagram(t, root, count)
 }
 
 // Whether a table of entries is in Definition 28's normal form from a root on: the root's verdict, or the first condition that fails.
@@ -79,8 +68,6 @@ fn check_entries(t: &[u32], root: u32, count: usize) -> Result<Verdict, CheckFau
 pub fn check_normal_form(table: &[u32], root: u32) -> Result<Verdict, CheckFault>
     ensures { result ≡ rule.check table_limits table.now root }
 {
-    if !shape_kept(table, root) {
-        return Err(CheckFault::BadShape);
-    }
-    check_entries(table, root, table.len() / ENTRY_LENGTH)
+    let shaped = Table::of(table, root).ok_or(CheckFault::BadShape)?;
+    shaped.check()
 }

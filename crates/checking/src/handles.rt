@@ -1,28 +1,28 @@
 // Number 83: a handle not lower than its entry's own. Once this has passed, every handle of an entry can be followed.
-ghost use Rattle.std.specs.Prelude.{◌≡◌, ◌+◌};
-ghost use Rattle.checking.specs.Needs.{HasEntries};
+ghost use Rattle.std.specs.Prelude.{◌≡◌, ◌<◌};
+ghost use Rattle.checking.specs.Needs.{parts_lower};
 ghost use Rattle.normal_form.specs.Check as rule;
-ghost use Rattle.normal_form.specs.Table as table;
-ghost use Rattle.store.specs.Sound.{all_below};
+ghost use Rattle.normal_form.specs.Table.{entry_count, entry};
 
-use crate::entries::entry_of;
+use crate::table::Table;
 use store::{LEAVES, wide};
 
-// Whether the handles of the i-th entry are lower than its own.
-#[tactic(auto, unfolding(normal_form::specs::Check::handles_lower))]
-fn handles_lower(t: &[u32], i: usize) -> bool
-    requires { HasEntries t.now (i + 1) }
-    ensures { result ≡ rule.handles_lower (table.entry t.now i) i }
-{
-    let e = entry_of(t, i);
-    let own = i + LEAVES;
-    wide(e.yes) < own && wide(e.no) < own
-}
+impl Table<'_> {
+    // Whether the handles of the i-th entry are lower than its own.
+    #[tactic(auto, unfolding(normal_form::specs::Check::handles_lower))]
+    fn handles_lower(self, i: usize) -> bool
+        requires { i < entry_count self.words.now }
+        ensures { result ≡ rule.handles_lower (entry self.entry.words.now i) i }
+    {
+        let e = self.entry(i);
+        let own = i + LEAVES;
+        wide(e.yes) < own && wide(e.no) < own
+    }
 
-// Whether this is so of each entry.
-pub fn all_handles_lower(t: &[u32], count: usize) -> bool
-    requires { HasEntries t.now count }
-    ensures { result ≡ all_below count (λ i. rule.handles_lower (table.entry t.now i) i) }
-{
-    (0..count).all(|i| handles_lower(t, i))
+    // Whether this is so of each entry.
+    pub fn all_handles_lower(self) -> bool
+        ensures { result ≡ parts_lower self.entry.words.now }
+    {
+        (0..self.count()).all(|i| self.handles_lower(i))
+    }
 }

@@ -2,6 +2,7 @@
 #![tactic(auto)]
 
 mod checking;
+mod diagram;
 mod differing;
 mod entries;
 mod handles;
@@ -10,5 +11,6 @@ mod naming;
 mod ordering;
 mod questions;
 mod sets;
+mod table;
 
 pub use checking::check_normal_form;

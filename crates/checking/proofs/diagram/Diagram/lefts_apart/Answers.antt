@@ -1,0 +1,8 @@
+-- `lefts_apart` meets its contract: the entries are tested one by one, by the sets that the pass up leaves.
+use Rattle.std.proofs.Common.{rules}
+use borrow.Author.Tests.{tests}
+use Rattle.store.proofs.Ranges.{all_tested}
+use Rattle.checking.proofs.diagram.Diagram.lefts_apart.Goals as goal
+
+pub returns : goal.returns
+returns c = all_tested _ _ c.all.ensures.ran (λ i. record { start = 0; end = c.count.ensures i }) (λ x b q k. search (rules, tests))
