@@ -11,6 +11,8 @@ ghost use Rattle.terms.specs.Order.{lex};
 use facts::{Asked, Facts, Sheet, ask, least_sheet, no};
 use store::{LEAVES, entry_of, question_at, wide};
 
+// The number of fields goes along as a number, its bound a clause of three functions: a type with the bound in it would be taken off again at each use.
+
 // The counts of the fields 1 to n, as they are compared.
 fn counts(sheet: &Sheet, n: u32) -> &[u32]
     requires { needs.Fields n }

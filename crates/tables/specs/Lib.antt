@@ -4,4 +4,3 @@ pub mod Decoding
 pub mod TableFault
 pub mod Listed
 pub mod Faults
-pub mod Needs

@@ -4,4 +4,4 @@ use Rattle.tables.proofs.FaultWays.{RowsPassed}
 use Rattle.tables.proofs.faults.rows_fault.Given as goal
 
 abbrev pub invariant-loop-i : goal.invariant-loop-i
-invariant-loop-i l = RowsPassed (row_fault l.limits l.s) l.table l.i
+invariant-loop-i l = RowsPassed (row_fault l.listing.limits l.listing.store.now) l.table l.i
