@@ -33,8 +33,7 @@ fn write_example(s: &[u32], handle: usize, out: &mut [u16]) -> Result<(), Exampl
     Ok(())
 }
 
-// The example of a handle within limits. The tests of soundness and of the handle stand in each operation: one function for both would need a From of its fault into each
-// operation's own, longer than the tests.
+// The example of a handle within limits.
 #[tactic(auto, unfolding(crate::specs::Example::example))]
 pub fn example_within(
     limits: Limits,

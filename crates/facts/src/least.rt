@@ -31,7 +31,7 @@ fn has_count(x: Field, count: u32) -> Equation
 }
 
 // The least count that a field can have, worked into the facts: no count is below the field's offset, and above it a candidate fails only
-// where a question answered no would be settled. A `loop`, since a range of candidates would need an end, which the proof alone has.
+// where a question answered no would be settled.
 fn fix_field(f: &mut Facts, x: Field) -> u32
     requires { need.CanFix f.old x.0 }
     ensures { need.FixedAt f.old x.0 result f.new }

@@ -68,8 +68,7 @@ pub fn read_sound(s: &[u32], handle: u32, sheet: &[u16]) -> bool
     h == 1
 }
 
-// Reads a sheet against a handle within limits. The tests of soundness and of the handle stand in each operation: one function for both would need a From of its fault into each
-// operation's own, longer than the tests.
+// Reads a sheet against a handle within limits.
 #[tactic(auto, unfolding(crate::specs::Read::read_sheet))]
 pub fn read_within(limits: Limits, s: &[u32], handle: u32, sheet: &[u16]) -> Result<bool, ReadFault>
     requires { FitLimits limits }

@@ -22,8 +22,7 @@ fn by_leaves(l: Leaves) -> Verdict
     }
 }
 
-// The verdict of a handle within limits. The tests of soundness and of the handle stand in each operation: one function for both would need a From of its fault into each
-// operation's own, longer than the tests.
+// The verdict of a handle within limits.
 #[tactic(auto, unfolding(crate::specs::Verdict::verdict))]
 pub fn verdict_within(limits: Limits, s: &[u32], handle: u32) -> Result<Verdict, VerdictFault>
     requires { FitLimits limits }

@@ -41,8 +41,7 @@ fn write_sound(s: &[u32], handle: usize, out: &mut [u32]) -> Result<u32, WriteFa
     Ok(count)
 }
 
-// Writes a handle back within limits. The tests of soundness and of the handle stand in each operation: one function for both would need a From of its fault into each
-// operation's own, longer than the tests.
+// Writes a handle back within limits.
 #[tactic(auto, unfolding(crate::specs::WriteBack::write_back))]
 pub fn write_back_within(
     limits: Limits,
