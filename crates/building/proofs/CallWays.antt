@@ -35,10 +35,6 @@ use Rattle.store.proofs.ByHandles.{leaf_stays}
 use Rattle.store.proofs.SoundFacts.{sound_says}
 use Rattle.store.proofs.Tests.{passes}
 
--- ---- the choice of three handles
-pub choice_adds : {limits : Limits} {s : List ℕ} {a b c : ℕ} → CanChoose limits s a b c → CanAdd limits s (Choice a b c)
-choice_adds can = record { fit = can.fit; is_sound = can.is_sound; given = record { taken = (can.first_in, can.second_in, can.third_in) } }
-
 -- ---- not and and, as choices
 module _ (limits : Limits) (s : List ℕ) where
   never_means : (v : Valuation) → meaning s 0 v ≡ false
@@ -80,18 +76,6 @@ module _ (limits : Limits) (s : List ℕ) where
       (λ v. (λ i. cond (meaning s a v) (meaning s b v) (never_means v i)) ∙ is_and (meaning s a v) (meaning s b v)) in
       let test : are_handles s a b 0 ≡ (is_handle s a && is_handle s b) = simp (leaf_handle 0 (omega arith), and-true) in
       e ∙ (λ i. tested (test i) (adds i))
-
--- ---- the test of three handles
-module _ (s : List ℕ) (a b c : ℕ) {x : Bool} (ex : x ≡ is_handle s a) where
-  pub no_first : x ≡ false → false ≡ are_handles s a b c
-  no_first d = rw (← ex, d)
-
-  module _ (d : x ≡ true) {y : Bool} (ey : y ≡ is_handle s b) where
-    pub no_second : y ≡ false → false ≡ are_handles s a b c
-    no_second f = rw (← ex, d, ← ey, f)
-
-    pub by_third : y ≡ true → {z : Bool} → z ≡ is_handle s c → z ≡ are_handles s a b c
-    by_third t ez = rw (← ex, d, ← ey, t) ez
 
 -- ---- the fault of a table, by what its test answers
 none_found : (x : Option TableFault) → checked x ≡ Ok tt → x ≡ none
@@ -138,9 +122,6 @@ module _ (limits : Limits) (s : List ℕ) {t : Bool} (et : t ≡ sound limits s)
         taken : table_fault limits s table ≡ none
         taken = none_found (table_fault limits s table) (sym ef ∙ d)
 
-        pub can_build : {rows : Bor (List ℕ)} → rows.now ≡ table → FitLimits limits → CanAdd limits s (Table rows)
-        can_build same fit = record { fit = fit; is_sound = sound_is; given = record { taken = rw same taken } }
-
         pub builds : {o : Outcome Built} → o ≡ add_meaning limits s (rule_meaning table) → o ≡ build limits s table
         builds eo = eo ∙ build_is none taken
 
@@ -151,17 +132,6 @@ module _ (limits : Limits) (s : List ℕ) {t : Bool} (et : t ≡ sound limits s)
       choose_none d = rw (← et, e, ← ex, d)
 
       module _ (d : x ≡ true) where
-        pub can_choose : FitLimits limits → CanChoose limits s a b c
-        can_choose fit =
-            let all : are_handles s a b c ≡ true = sym ex ∙ d in
-            record {
-              fit = fit;
-              is_sound = sound_is;
-              first_in = ltb-true a (used s + leaves) (passes (is_handle s a) (λ f. rw f at all));
-              second_in = ltb-true b (used s + leaves) (passes (is_handle s b) (λ f. simp (f, and-false) at all));
-              third_in = ltb-true c (used s + leaves) (passes (is_handle s c) (λ f. simp (f, and-false) at all));
-            }
-
         pub chooses : {o : Outcome Built} → o ≡ add_meaning limits s (choice s a b c) → o ≡ choose limits s a b c
         unfolding choose
         chooses eo = rw (← et, e, ← ex, d) eo

@@ -29,6 +29,7 @@ impl Indexed for TableEntry {
         TableEntry(entry_of(words, i))
     }
 
+    #[tactic(auto, unfolding(crate::specs::Needs::hash_of))]
     fn bucket(self) -> usize {
         let terms = self.0.left as u64 * 524114809 + self.0.right as u64 * 663608941;
         let sum = terms + self.0.yes as u64 * 786033567 + self.0.no as u64 * 444758427;

@@ -1,5 +1,5 @@
 -- What is done with the list that was collected, on each way through the code: the tests on that way decide the definition's own tests.
-use Prim.Native.Nat.{ℕ, ◌+◌, ◌-◌, ◌*◌, ◌/◌, ◌%◌, ◌≤◌, ◌<◌, ◌^◌}
+use Prim.Native.Nat.{ℕ, ◌+◌, ◌-◌, ◌*◌, ◌/◌, ◌%◌, ◌≤◌, ◌<◌}
 use mathlib.Core.Path.{◌≡◌, sym, ap, ◌∙◌}
 use mathlib.Core.Logic.{◌≢◌}
 use mathlib.Core.Bool.{true, false}
@@ -51,11 +51,8 @@ module _ (limits : Limits) (n order : ℕ) (words : List ℕ) (count : ℕ) (s :
     too_short h = rw (short, lt-ltb (length s) (heading_length + length list) (omega (arith, long)))
 
     module _ (room : heading_length + 2 * count ≤ length s) where
-      pub list_room : heading_length + length list ≤ length s
+      list_room : heading_length + length list ≤ length s
       list_room = omega (arith, long)
-
-      pub few_words : limits.questions < 2 ^ 32 → length list / 2 < 2 ^ 32
-      few_words h = omega (arith, long)
 
       -- the part of the words from 0 on, as the code lends it
       pub opens : {t : List ℕ} → t ≡ opened_words n order (take (2 * count - 0) words) (length s) → outcome (Ok tt) t ≡ open_resulting limits n order list s

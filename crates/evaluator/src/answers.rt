@@ -16,10 +16,7 @@ impl From<Result<u32, Refusal>> for Answer {
         ensures without { OnErr expected (result.result ≡ 0) }
     {
         match expected {
-            Ok(result) => Answer {
-                number: 0,
-                result: result,
-            },
+            Ok(result) => Answer { number: 0, result },
             Err(refusal) => Answer {
                 number: refusal.number(),
                 result: 0,

@@ -16,7 +16,7 @@ pub enum Call<'a> {
 
 impl Call<'_> {
     // The store, and then the rule table or the handles.
-    pub fn check(self, limits: Limits, store: Store<'_>) -> Result<(), Refusal> {
+    pub(crate) fn check(self, limits: Limits, store: Store<'_>) -> Result<(), Refusal> {
         if !store.is_sound(limits) {
             return Err(Refusal::NoStore);
         }

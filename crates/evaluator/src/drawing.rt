@@ -4,10 +4,9 @@ ghost use Rattle.std.specs.Prelude.{◌+◌, ◌<◌, ◌^◌, length};
 
 use crate::calls::Call;
 use crate::entries::{Entry, put_entry};
-use crate::equations::Equation;
+use crate::equations::Equations;
 use crate::grid::MOST_DRAWN;
 use crate::layout::{Store, USED_PLACE};
-use crate::truth::holds;
 use crate::words::{first, put};
 
 // The leaf of each way to answer the questions of a list, question 1 being the highest digit; none where no sheet answers so.
@@ -15,9 +14,8 @@ type Ways = [Option<bool>; 1 << MOST_DRAWN];
 
 // What a sheet answers to the questions, as one number.
 fn way_of(store: Store<'_>, sheet: &[u16]) -> usize {
-    let questions = store.list().as_chunks::<2>().0.iter();
-    questions.fold(0, |way, pair| {
-        (way << 1) | usize::from(holds(sheet, Equation::from(*pair)))
+    Equations(store.list()).fold(0, |way, question| {
+        (way << 1) | usize::from(question.holds(sheet))
     })
 }
 

@@ -23,7 +23,7 @@ impl Store<'_> {
         HEADING + 2 * self.questions() as usize + 3 * i as usize
     }
 
-    pub fn entry(self, i: u32) -> Entry {
+    pub(crate) fn entry(self, i: u32) -> Entry {
         let place = self.entry_place(i);
         Entry {
             question: at(self.0, place),
@@ -41,12 +41,12 @@ impl Store<'_> {
     }
 
     // The first entry with these words.
-    pub fn find(self, entry: Entry) -> Option<u32> {
+    pub(crate) fn find(self, entry: Entry) -> Option<u32> {
         (0..self.used()).find(|i| self.entry(*i) == entry)
     }
 
     // Whether a store has room for so many entries, within limits and by its length.
-    pub fn has_room(self, limits: Limits, entries: u32) -> bool {
+    pub(crate) fn has_room(self, limits: Limits, entries: u32) -> bool {
         entries <= limits.entries && self.fits(entries)
     }
 

@@ -1,5 +1,6 @@
 // Equations of two terms, each of which is one word: its field, and its steps times 32.
-ghost use Rattle.std.specs.Prelude.{◌≡◌, ◌+◌, ◌/◌, ◌<◌};
+ghost use Rattle.std.specs.Iterator.{at_most};
+ghost use Rattle.std.specs.Prelude.{◌≡◌, ◌+◌, ◌/◌, ◌<◌, [], ◌∷◌, length};
 
 use crate::limits::Limits;
 
@@ -23,14 +24,17 @@ pub struct Equation {
 
 impl From<[u32; 2]> for Equation {
     fn from([left, right]: [u32; 2]) -> Equation {
-        Equation {
-            left: left,
-            right: right,
-        }
+        Equation { left, right }
     }
 }
 
 impl Equation {
+    pub fn words(self) -> [u32; 2]
+        ensures { result ≡ self.left ∷ self.right ∷ [] }
+    {
+        [self.left, self.right]
+    }
+
     pub fn turned_round(self) -> Equation
         ensures left { result.left ≡ self.right }
         ensures right { result.right ≡ self.left }
@@ -43,9 +47,7 @@ impl Equation {
 
     // Whether a term has a field above n, or too many steps.
     pub fn is_beyond(self, limits: Limits, n: u32) -> bool {
-        [self.left, self.right]
-            .iter()
-            .any(|term| is_beyond(limits, n, *term))
+        is_beyond(limits, n, self.left) || is_beyond(limits, n, self.right)
     }
 
     // Larger field left, no common steps, and no steps on the left of zero.
@@ -60,6 +62,22 @@ impl Equation {
         ensures { result ≡ self.left / 32 + self.right / 32 }
     {
         steps(self.left) + steps(self.right)
+    }
+}
+
+// The equations of a list, by its words.
+#[derive(Clone, Copy)]
+pub struct Equations<'a>(pub &'a [u32]);
+
+impl Iterator for Equations<'_> {
+    type Item = Equation;
+
+    ghost remaining = { λ s. at_most (length s.0.now) };
+
+    fn next(&mut self) -> Option<Equation> {
+        let (pair, rest) = self.0.split_first_chunk::<2>()?;
+        self.0 = rest;
+        Some(Equation::from(*pair))
     }
 }
 

@@ -2,7 +2,7 @@
 // are numbered in the order that compares field 1 first: one count is the number, and more are its digits. They are a complete test of any rule over a
 // list that names m fields, all of them among those that vary, if they have every count up to m × (K + 1), K being the largest gap without its sign: so
 // they are for any list of one field, and for one of two or three fields if that number is at most nine.
-use crate::equations::{Equation, field};
+use crate::equations::{Equation, Equations, field};
 use crate::layout::Store;
 use crate::limits::{MOST_FIELDS, MOST_STEPS};
 use crate::refusals::Refusal;
@@ -66,8 +66,8 @@ impl Store<'_> {
     // for so many questions.
     pub fn is_covered(self) -> bool {
         let n = self.fields();
-        let mut questions = self.list().as_chunks::<2>().0.iter();
-        self.questions() <= MOST_DRAWN && questions.all(|pair| is_within(n, Equation::from(*pair)))
+        self.questions() <= MOST_DRAWN
+            && Equations(self.list()).all(|question| is_within(n, question))
     }
 
     // Whether the evaluator knows the answer to a call on a store, by what it expects: it knows the refusals of a store, a rule, a handle or a length.

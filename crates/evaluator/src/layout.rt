@@ -35,7 +35,7 @@ impl<'a> Store<'a> {
     }
 
     // The words of the list, if it has all of them.
-    pub fn list(self) -> &'a [u32] {
+    pub(crate) fn list(self) -> &'a [u32] {
         let end = HEADING + 2 * self.questions() as usize;
         self.0.get(HEADING..end).unwrap_or(&[])
     }

@@ -9,7 +9,7 @@ impl Store<'_> {
     }
 
     // The number of the first sheet at which a handle has a truth.
-    pub fn first_sheet(self, handle: u32, truth: bool) -> Option<u32> {
+    pub(crate) fn first_sheet(self, handle: u32, truth: bool) -> Option<u32> {
         (0..self.sheets()).find(|number| self.truth_at(handle, *number) == truth)
     }
 

@@ -1,5 +1,5 @@
 // What opening must answer, and the words that it must leave.
-use crate::equations::Equation;
+use crate::equations::{Equation, Equations};
 use crate::layout::{HEADING, Store};
 use crate::limits::Limits;
 use crate::orders::Order;
@@ -27,7 +27,7 @@ fn check_question(limits: Limits, n: u32, question: Equation) -> Result<(), Refu
 
 impl<'a> Opening<'a> {
     // What opening tests first, with a list of questions and with a raw one. Gives the order.
-    pub fn check_form(self, limits: Limits) -> Result<Order, Refusal> {
+    pub(crate) fn check_form(self, limits: Limits) -> Result<Order, Refusal> {
         if self.n > limits.fields {
             return Err(Refusal::TooManyFields);
         }
@@ -41,8 +41,7 @@ impl<'a> Opening<'a> {
     // The questions of the list, each of which stands after the one before it.
     fn check_questions(self, limits: Limits, order: Order) -> Result<(), Refusal> {
         let mut before = 0;
-        for pair in self.list.as_chunks::<2>().0 {
-            let question = Equation::from(*pair);
+        for question in Equations(self.list) {
             check_question(limits, self.n, question)?;
             let place = order.place(question);
             if place <= before {
@@ -54,7 +53,7 @@ impl<'a> Opening<'a> {
     }
 
     // Opening a store of so many words.
-    pub fn check(self, limits: Limits, length: usize) -> Result<(), Refusal> {
+    pub(crate) fn check(self, limits: Limits, length: usize) -> Result<(), Refusal> {
         let order = self.check_form(limits)?;
         if self.list.len() / 2 > limits.questions as usize {
             return Err(Refusal::TooManyQuestions);

@@ -22,7 +22,7 @@ impl Store<'_> {
     }
 
     // The rows of a handle that is written back: one for never, two for always, and two more for each entry reached.
-    pub fn rows(self, handle: u32) -> usize {
+    pub(crate) fn rows(self, handle: u32) -> usize {
         if handle == 0 {
             return 1;
         }

@@ -1,5 +1,7 @@
 // Rule tables: their rows, and which refusal a table asks for.
-use crate::equations::{Equation, field, steps};
+ghost use Rattle.std.specs.Prelude.{◌<◌, slice_index};
+
+use crate::equations::{Equation, Equations, field, steps};
 use crate::layout::Store;
 use crate::limits::Limits;
 use crate::refusals::Refusal;
@@ -36,11 +38,13 @@ impl TryFrom<[u32; 4]> for Row {
 }
 
 impl Row {
-    pub fn words(self) -> [u32; 4] {
+    pub fn words(self) -> [u32; 4]
+        ensures { slice_index result 0 < 6 }
+    {
         match self {
             Row::Never => [0, 0, 0, 0],
             Row::Always => [1, 0, 0, 0],
-            Row::Asks(equation) => [2, equation.left, equation.right, 0],
+            Row::Asks(Equation { left, right }) => [2, left, right, 0],
             Row::Not(a) => [3, a, 0, 0],
             Row::And(a, b) => [4, a, b, 0],
             Row::IfThenElse(a, b, c) => [5, a, b, c],
@@ -69,10 +73,9 @@ fn is_raised(equation: Equation, question: Equation) -> bool {
 
 // Whether the equation is a question's of the list, either way round.
 fn is_listed(store: Store<'_>, equation: Equation) -> bool {
-    store.list().as_chunks::<2>().0.iter().any(|pair| {
-        let question = Equation::from(*pair);
-        is_raised(equation, question) || is_raised(equation.turned_round(), question)
-    })
+    let turned = equation.turned_round();
+    Equations(store.list()).any(|question| is_raised(equation, question)
+        || is_raised(turned, question))
 }
 
 // Whether zero is to have more steps than a count has: never, since no count is below zero.

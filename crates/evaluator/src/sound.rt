@@ -34,11 +34,11 @@ impl Store<'_> {
         (0..entries).all(|i| self.is_sound_entry(i)) && unused.iter().all(|word| *word == 0)
     }
 
-    pub fn has_handle(self, handle: u32) -> bool {
+    pub(crate) fn has_handle(self, handle: u32) -> bool {
         u64::from(handle) < u64::from(self.used()) + 2
     }
 
-    pub fn check_handles(self, handles: &[u32]) -> Result<(), Refusal> {
+    pub(crate) fn check_handles(self, handles: &[u32]) -> Result<(), Refusal> {
         if handles.iter().all(|handle| self.has_handle(*handle)) {
             return Ok(());
         }
@@ -46,7 +46,7 @@ impl Store<'_> {
     }
 
     // A store and one of its handles, at the institute: the logger's operations take no handles.
-    pub fn check_handle(self, handle: u32) -> Result<(), Refusal> {
+    pub(crate) fn check_handle(self, handle: u32) -> Result<(), Refusal> {
         if !self.is_sound(Limits::INSTITUTE) {
             return Err(Refusal::NoStore);
         }

@@ -21,8 +21,10 @@ fn value(sheet: &[u16], term: u32) -> u32 {
     count(sheet, field(term)) + steps(term)
 }
 
-pub fn holds(sheet: &[u16], equation: Equation) -> bool {
-    value(sheet, equation.left) == value(sheet, equation.right)
+impl Equation {
+    pub fn holds(self, sheet: &[u16]) -> bool {
+        value(sheet, self.left) == value(sheet, self.right)
+    }
 }
 
 // The truth of a row, from the truth of the rows before it.
@@ -31,7 +33,7 @@ fn row_truth(row: Row, truths: &[bool], sheet: &[u16]) -> bool {
     match row {
         Row::Never => false,
         Row::Always => true,
-        Row::Asks(equation) => holds(sheet, equation),
+        Row::Asks(equation) => equation.holds(sheet),
         Row::Not(a) => !truth(a),
         Row::And(a, b) => truth(a) && truth(b),
         Row::IfThenElse(a, b, c) => truth(if truth(a) { b } else { c }),
@@ -59,7 +61,7 @@ impl Store<'_> {
                 break;
             };
             let entry = self.entry(i);
-            let answer = holds(sheet, self.question(entry.question));
+            let answer = self.question(entry.question).holds(sheet);
             at = if answer { entry.yes } else { entry.no };
         }
         at == 1

@@ -6,13 +6,13 @@ use mathlib.Core.Bool.{Bool, true, false, false≢true, not}
 use mathlib.Core.List.{List}
 use native.Mathlib.Omega.{arith}
 use borrow.Author.Tests.{lt-ltb, le-ltb}
-use lib.ListN.{get_or, replicate}
+use lib.ListN.{replicate}
 use Rattle.std.proofs.Common.{Option, Some, None, cond}
 use Rattle.std.specs.Option.{is_some}
 use Rattle.index.specs.declared.chains.Index.{Index}
 use Rattle.index.specs.Entries.{capacity, buckets, none_equal, EntryLaws}
 use Rattle.index.specs.Needs.{EntriesFit, Holds, Empty, HasRoom, Searchable, found}
-use Rattle.index.proofs.ChainLaws.{chains_none, Walk, walk_step}
+use Rattle.index.proofs.ChainLaws.{chains_none, Walk}
 use Rattle.store.specs.Entries.{first}
 use Rattle.store.specs.Needs.{EntryFrom}
 use Rattle.store.specs.Sound.{all_below}
@@ -68,9 +68,6 @@ Left entry bucket same k e p = Walk (λ i. bucket (entry i)) (λ i. same (entry 
 module _ {A : Type 0} {fits : List ℕ → ℕ → ℕ → Type 0} {entry : List ℕ → ℕ → A} {differ : List ℕ → ℕ → Bool} {same eq : A → A → Bool} {bucket : A → ℕ}
     (laws : EntryLaws fits entry differ same eq) (s : List ℕ) (start : ℕ) where
   module _ {x : Index} (r : Searchable (fits s start) (entry s) bucket same x) (e : A) where
-    in_bucket : (j : ℕ) → same (entry s j) e ≡ true → bucket (entry s j) ≡ bucket e
-    in_bucket j t = ap bucket (laws.same_says (entry s j) e t)
-
     -- no entry before one that is e is e, since no two of the entries are equal
     only_one : (i : ℕ) → i < x.count → same (entry s i) e ≡ true → (j : ℕ) → j < i → same (entry s j) e ≡ false
     only_one i h a j l =
@@ -81,19 +78,9 @@ module _ {A : Type 0} {fits : List ℕ → ℕ → ℕ → Type 0} {entry : List
         (λ b. refl)
 
     module _ {p : ℕ} (l : Left (entry s) bucket same x.count e p) (h : 0 < p) where
-      pub left_fits : fits s start (p - 1 + 1)
-      left_fits = laws.less s start (p - 1 + 1) x.count (omega (arith, l.low)) r.fit
-
       module _ {d : A} {t : Bool} (ed : d ≡ entry s (p - 1)) (et : t ≡ eq d e) where
         tested : t ≡ same (entry s (p - 1)) e
         tested = et ∙ laws.eq_is d e ∙ ap (λ (y : A). same y e) ed
-
-        pub left_less : {p' : ℕ} → t ≡ false → p' ≡ get_or x.links (p - 1) 0 → Left (entry s) bucket same x.count e p'
-        left_less b n =
-            let low = l.low in
-            rw n
-            (walk_step (λ i. bucket (entry s i)) (λ i. same (entry s i) e) (bucket e) x.count in_bucket l (p - 1) (omega arith) (sym tested ∙ b)
-            (r.index.chains.next (p - 1) (omega arith)))
 
         pub left_found : t ≡ true → Some (p - 1) ≡ found (entry s) same e x.count
         left_found b =

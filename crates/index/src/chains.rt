@@ -1,4 +1,4 @@
-// The index: the entries of each bucket are linked, from the last one back to the first.
+// The index: the entries of each bucket are linked, from the last one back to the first, in arrays of a fixed size, since the library has no heap.
 ghost use Rattle.std.specs.Prelude.{◌≡◌, ◌+◌, ℕ, Option};
 ghost use Rattle.index.specs.Needs.{Empty, Holds, HasRoom, Searchable, Loaded, found};
 

@@ -1,4 +1,5 @@
-// What an index asks of the entries that it holds.
+// What an index asks of the entries that it holds. The words and the start are lent at each call and are no struct: a store is written between the calls,
+// so that a view of both would be made anew at each of them.
 ghost use Rattle.std.specs.Prelude.{◌≡◌, ◌+◌, ℕ, Bool, List};
 ghost use Rattle.index.specs.Entries.{Bucket, EntryLaws};
 

@@ -25,6 +25,7 @@ impl Indexed for Entry {
         entry_from(words, start, i)
     }
 
+    #[tactic(auto, unfolding(crate::specs::Needs::hash_of))]
     fn bucket(self) -> usize {
         let sum = self.question as u64 * 524114809
             + self.yes as u64 * 1518500249

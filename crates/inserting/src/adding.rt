@@ -32,7 +32,7 @@ fn walk_all(limits: Limits, store: &mut [u32], subject: Subject) -> Option<u32>
     index.load::<Entry>(store, entries_start(store), wide(used(store)));
     let goal = Goal { limits, subject };
     let questions = question_count(store);
-    walk(goal, store, &mut index, no_facts(), 1, questions)
+    walk(&goal, store, &mut index, &no_facts(), 1, questions)
 }
 
 // Adds the finished diagram of what a subject means, or leaves every word as it came where there is no room for it.

@@ -1,7 +1,7 @@
 -- The numbers of a check's answer (document 02, vii).
-use Rattle.std.specs.Prelude.{ℕ, Result, Ok, Err}
+use Rattle.std.specs.Prelude.{ℕ, Result}
 use Rattle.store.specs.declared.verdict.Verdict.{Verdict}
-use Rattle.store.specs.VerdictWord.{verdict_word}
+use Rattle.store.specs.VerdictWord.{result_of_verdict}
 use Rattle.terms.specs.Refusal.{answer_number}
 use Rattle.normal_form.specs.declared.answer.CheckFault.{CheckFault}
 use Rattle.normal_form.specs.declared.answer.CheckFault.TheVariants.{BadShape, BadTerm, HandleNotLower, EqualEntries, NotReachable, RuleApplies}
@@ -23,5 +23,4 @@ checked_number = answer_number check_fault_number
 
 -- "On acceptance the result is the root's verdict": 0 never, 1 always, 2 sometimes
 abbrev pub checked_result : CheckAnswer → ℕ
-checked_result (Ok verdict) = verdict_word verdict
-checked_result (Err f) = 0
+checked_result = result_of_verdict

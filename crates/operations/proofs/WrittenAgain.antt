@@ -11,7 +11,6 @@ use Rattle.store.specs.Outcome.{outcome}
 use Rattle.store.specs.SoundParts.{Sound}
 use Rattle.tables.specs.Rows.{row_length, most_rows}
 use Rattle.terms.specs.declared.limits.Limits.{Limits}
-use Rattle.writing.specs.declared.answer.Written.TheVariants.{Rows}
 use Rattle.writing.specs.WriteBack.{written_rows, written_count, write_back}
 use Rattle.writing.proofs.WriteBackMeans.{written_back}
 use Rattle.writing.proofs.WrittenAccepted.{written_accepted}
@@ -31,7 +30,7 @@ module _ {limits : Limits} (b : Books) (snd : Sound limits b.words) (c : Call) (
       returned_again b snd c h e calls (written_rows now h) (written_accepted later h u few) (written_means later h u)
 
   -- the rows are the first words of the slice, four for each row that write back answers
-  pub written_again : (out : List ℕ) (k : ℕ) → (write_back limits now h out).answer ≡ Rows k
+  pub written_again : (out : List ℕ) (k : ℕ) → (write_back limits now h out).answer ≡ Ok k
       → operation.build limits now (take (row_length * k) (write_back limits now h out).words) ≡ outcome (Ok h) now
   written_again out k answered =
       let w = written_back limits now h out k answered in

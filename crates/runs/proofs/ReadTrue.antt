@@ -6,9 +6,9 @@ use mathlib.Core.List.{List}
 use native.Mathlib.Omega.{arith}
 use lib.Dec.{eqb}
 use lib.ListN.{length}
-use Rattle.reading.specs.declared.answer.Read.TheVariants.{Satisfies, Refused}
+use Rattle.std.specs.Prelude.{Ok, Err}
+use Rattle.reading.specs.Read.{Read, read_sheet}
 use Rattle.reading.specs.declared.answer.ReadFault.TheVariants.{NotSound, NoHandle, WrongLength}
-use Rattle.reading.specs.Read.{read_sheet}
 use Rattle.reading.specs.Sheet.{sheet_counts}
 use Rattle.store.specs.Layout.{field_count, is_handle}
 use Rattle.store.specs.Meaning.{meaning}
@@ -20,17 +20,17 @@ module _ (limits : Limits) (s : List ℕ) (handle : ℕ) (sheet : List ℕ) wher
   abbrev ReadsTrue : Type 0
   ReadsTrue = (length sheet ≡ field_count s) × (meaning s handle (sheet_counts sheet) ≡ true)
 
-  pub reads_true : read_sheet limits s handle sheet ≡ Satisfies true → ReadsTrue
+  pub reads_true : read_sheet limits s handle sheet ≡ Ok true → ReadsTrue
   unfolding read_sheet
   reads_true = by_test (λ t. cond t
       (cond (is_handle s handle)
-      (cond (eqb (length sheet) (field_count s)) (Satisfies (meaning s handle (sheet_counts sheet))) (Refused WrongLength))
-      (Refused NoHandle))
-      (Refused NotSound) ≡ Satisfies true → ReadsTrue) (sound limits s)
+      (cond (eqb (length sheet) (field_count s)) (Ok (meaning s handle (sheet_counts sheet))) (Err WrongLength))
+      (Err NoHandle))
+      (Err NotSound) ≡ Ok true → ReadsTrue) (sound limits s)
       (λ _. by_test (λ t. cond t
-      (cond (eqb (length sheet) (field_count s)) (Satisfies (meaning s handle (sheet_counts sheet))) (Refused WrongLength))
-      (Refused NoHandle) ≡ Satisfies true → ReadsTrue) (is_handle s handle)
-      (λ _. by_eq (λ t. cond t (Satisfies (meaning s handle (sheet_counts sheet))) (Refused WrongLength) ≡ Satisfies true → ReadsTrue)
+      (cond (eqb (length sheet) (field_count s)) (Ok (meaning s handle (sheet_counts sheet))) (Err WrongLength))
+      (Err NoHandle) ≡ Ok true → ReadsTrue) (is_handle s handle)
+      (λ _. by_eq (λ t. cond t (Ok (meaning s handle (sheet_counts sheet))) (Err WrongLength) ≡ Ok true → ReadsTrue)
       (length sheet) (field_count s) (λ l e. (l, cc)) (λ _ e. absurd (let z : ◌≡◌ {A = ℕ} 0 1 = cc in omega arith)))
       (λ _ e. absurd (let z : ◌≡◌ {A = ℕ} 0 1 = cc in omega arith)))
       (λ _ e. absurd (let z : ◌≡◌ {A = ℕ} 0 1 = cc in omega arith))

@@ -8,7 +8,7 @@ use mathlib.Core.Bool.{Bool, true}
 use mathlib.Core.List.{List}
 use borrow.Author.Tests.{lt-ltb, ltb-true, eq-eqb}
 use lib.ListN.{length}
-use Rattle.examples.specs.Best.{Best, none, some}
+use Rattle.examples.specs.Best.{Best}
 use Rattle.examples.specs.Example.{given, best_sheet, example}
 use Rattle.examples.specs.ExampleAnswers.{ExampleAnswers}
 use Rattle.operations.specs.Handles.{Call, Pair, Books, opened_books, run, In}
@@ -18,7 +18,7 @@ use Rattle.reading.specs.Sheet.{sheet_counts}
 use Rattle.runs.specs.InOrder.{InOrder}
 use Rattle.runs.specs.SheetOrNone.{SheetOrNone}
 use Rattle.runs.specs.RuleExample.{RuleExample}
-use Rattle.std.specs.Prelude.{Ok}
+use Rattle.std.specs.Prelude.{Ok, Err, Some, None}
 use Rattle.store.specs.Layout.{field_count, used, leaves, is_handle}
 use Rattle.store.specs.Meaning.{meaning}
 use Rattle.store.specs.Open.{opening}
@@ -27,9 +27,8 @@ use Rattle.terms.specs.declared.limits.Limits.{Limits}
 use Rattle.terms.specs.declared.order.ListOrder.{ListOrder}
 use Rattle.terms.specs.Meaning.{Valuation}
 use Rattle.terms.specs.Order.{order_number}
-use Rattle.verdicts.specs.declared.answer.Verdict.{Verdict}
-use Rattle.verdicts.specs.declared.answer.Verdict.TheVariants as verdicts
-use Rattle.verdicts.specs.Verdict.{verdict}
+use Rattle.store.specs.declared.verdict.Verdict.TheVariants as verdicts
+use Rattle.verdicts.specs.Verdict.{VerdictAnswer, verdict}
 use Rattle.verdicts.specs.VerdictSays.{VerdictSays}
 use Rattle.examples.proofs.ExampleFirst.{example_answers}
 use Rattle.operations.proofs.HandleLaw.{opened_kept, kept_law, run_kept}
@@ -41,11 +40,11 @@ use Rattle.verdicts.proofs.VerdictMeans.{verdict_says}
 use Rattle.runs.proofs.ReadTrue.{reads_true}
 
 -- what a verdict says of a meaning it says of one that is alike in truth
-says_alike : (d : Verdict) {means others : Valuation → Bool} → ((v : Valuation) → means v ≡ others v) → VerdictSays d means → VerdictSays d others
-says_alike verdicts.Never e d = λ v. sym (e v) ∙ d v
-says_alike verdicts.Always e d = λ v. sym (e v) ∙ d v
-says_alike verdicts.Sometimes e d = ((d.0.0, sym (e d.0.0) ∙ d.0.1), (d.1.0, sym (e d.1.0) ∙ d.1.1))
-says_alike (verdicts.Refused f) e d = d
+says_alike : (d : VerdictAnswer) {means others : Valuation → Bool} → ((v : Valuation) → means v ≡ others v) → VerdictSays d means → VerdictSays d others
+says_alike (Ok verdicts.Never) e d = λ v. sym (e v) ∙ d v
+says_alike (Ok verdicts.Always) e d = λ v. sym (e v) ∙ d v
+says_alike (Ok verdicts.Sometimes) e d = ((d.0.0, sym (e d.0.0) ∙ d.0.1), (d.1.0, sym (e d.1.0) ∙ d.1.1))
+says_alike (Err f) e d = d
 
 module _ (limits : Limits) (order : ListOrder) (n : ℕ) (list s : List ℕ) (e : opening limits n (order_number order) list (length s) ≡ Ok tt)
     (calls : List Call) where
@@ -91,8 +90,8 @@ module _ (limits : Limits) (order : ListOrder) (n : ℕ) (list s : List ℕ) (e 
       answer_is = rw (is, u, eq-eqb (length out) (field_count books.words) (l ∙ sym run_in_order.fields))
 
       go : (b : Best) → best_sheet books.words handle ≡ b → SheetOrNone (example limits books.words handle out)
-      go none d = inr (ap (λ o. o.answer) (answer_is ∙ ap (λ b. given b out) d))
-      go (some x) d = inl (ap (λ o. o.answer) (answer_is ∙ ap (λ b. given b out) d))
+      go None d = inr (ap (λ o. o.answer) (answer_is ∙ ap (λ b. given b out) d))
+      go (Some x) d = inl (ap (λ o. o.answer) (answer_is ∙ ap (λ b. given b out) d))
 
   -- ---- a rule of the ledger's
   module _ (p : Pair) (i : In p books.ledger) where

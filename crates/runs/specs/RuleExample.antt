@@ -1,7 +1,6 @@
 -- What example answers about a rule: the first sheet that satisfies it, or that nothing does.
-use Rattle.std.specs.Prelude.{ℕ, ◌≡◌, ◌⊎◌, true, false, List, length}
-use Rattle.examples.specs.declared.answer.Example.{Example}
-use Rattle.examples.specs.declared.answer.Example.TheVariants.{Written, Refused}
+use Rattle.std.specs.Prelude.{ℕ, ◌≡◌, ◌⊎◌, true, false, List, length, Ok, Err}
+use Rattle.examples.specs.Example.{Example}
 use Rattle.examples.specs.declared.answer.ExampleFault.TheVariants.{Nothing}
 use Rattle.operations.specs.Handles.{Rule}
 use Rattle.reading.specs.Sheet.{sheet_counts}
@@ -18,4 +17,4 @@ pub record FirstSheet (n : ℕ) (rule : Rule) (sheet : List ℕ) : Type 0 where
 -- "52, example of a rule that nothing satisfies"
 abbrev pub RuleExample : ℕ → Rule → Outcome Example → Type 0
 RuleExample n rule o =
-    ((o.answer ≡ Written) × FirstSheet n rule o.words) ⊎ ((o.answer ≡ Refused Nothing) × ((v : Valuation) → rule v ≡ false))
+    ((o.answer ≡ Ok tt) × FirstSheet n rule o.words) ⊎ ((o.answer ≡ Err Nothing) × ((v : Valuation) → rule v ≡ false))

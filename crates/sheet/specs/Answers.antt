@@ -1,19 +1,14 @@
 -- "An answer is a number and a result. Number 0 is success." Which number and result each operation's answer has.
 use Rattle.std.specs.Prelude.{ℕ}
-use Rattle.examples.specs.declared.answer.Example.{Example}
-use Rattle.examples.specs.Example.{example_number}
-use Rattle.normal_form.specs.CheckAnswer.{CheckAnswer}
-use Rattle.normal_form.specs.CheckAnswer.{checked_number, checked_result}
+use Rattle.examples.specs.Example.{Example, example_number}
+use Rattle.normal_form.specs.CheckAnswer.{CheckAnswer, checked_number, checked_result}
 use Rattle.operations.specs.Built.{Built, built_number, built_result}
 use Rattle.raw_lists.specs.RawOpened.{RawOpened, raw_number}
 use Rattle.sheet.specs.declared.answers.Answer.{Answer}
-use Rattle.reading.specs.declared.answer.Read.{Read}
-use Rattle.reading.specs.Read.{read_number, read_result}
+use Rattle.reading.specs.Read.{Read, read_number, read_result}
 use Rattle.store.specs.Opened.{Opened, open_number}
-use Rattle.verdicts.specs.declared.answer.Verdict.{Verdict}
-use Rattle.verdicts.specs.Verdict.{verdict_number, verdict_result}
-use Rattle.writing.specs.declared.answer.Written.{Written}
-use Rattle.writing.specs.WriteBack.{written_number, written_result}
+use Rattle.verdicts.specs.Verdict.{VerdictAnswer, verdict_number, verdict_result}
+use Rattle.writing.specs.WriteBack.{Written, written_number, written_result}
 
 abbrev pub answer_with : ℕ → ℕ → Answer
 answer_with number result = record { number = number; result = result }
@@ -33,7 +28,7 @@ abbrev pub built_answer : Built → Answer
 built_answer b = answer_with (built_number b) (built_result b)
 
 -- "0 never, 1 always, 2 sometimes"
-abbrev pub verdict_answer : Verdict → Answer
+abbrev pub verdict_answer : VerdictAnswer → Answer
 verdict_answer v = answer_with (verdict_number v) (verdict_result v)
 
 -- "1 if it satisfies the handle, else 0"

@@ -9,18 +9,20 @@ ghost use Rattle.terms.specs.Limits as limit;
 ghost use Rattle.verdicts.specs.Verdict.{verdict};
 ghost use Rattle.writing.specs.WriteBack.{write_back};
 
-use crate::answers::{Answer, example_answer, read_answer, verdict_answer, written_answer};
+use crate::answers::Answer;
 use examples::example_of;
-use reading::read;
+use reading::{read, read_result};
+use store::verdict_result;
 use verdicts::verdict_of;
-use writing::write_back;
+use writing::{write_back, written_result};
 
 // Whether a handle is never, always or sometimes true.
 #[unsafe(no_mangle)]
 pub extern "C" fn sheet_verdict(store: &[u32], a: u32) -> Answer
     ensures { result ≡ spec.verdict_answer (verdict limit.store_limits store.now a) }
 {
-    verdict_answer(verdict_of(store, a))
+    let verdict = verdict_of(store, a);
+    Answer::of(verdict, verdict_result(verdict))
 }
 
 // Writes the least sheet that satisfies a handle.
@@ -29,7 +31,7 @@ pub extern "C" fn sheet_example(store: &[u32], a: u32, sheet: &mut [u16]) -> Ans
     ensures { outcome result sheet.new
         ≡ answered spec.example_answer (example limit.store_limits store.now a sheet.old) }
 {
-    example_answer(example_of(store, a, sheet))
+    Answer::of(example_of(store, a, sheet), 0)
 }
 
 // Whether a sheet satisfies a handle.
@@ -37,7 +39,8 @@ pub extern "C" fn sheet_example(store: &[u32], a: u32, sheet: &mut [u16]) -> Ans
 pub extern "C" fn sheet_read(store: &[u32], a: u32, sheet: &[u16]) -> Answer
     ensures { result ≡ spec.read_answer (read_sheet limit.store_limits store.now a sheet.now) }
 {
-    read_answer(read(store, a, sheet))
+    let given = read(store, a, sheet);
+    Answer::of(given, read_result(given))
 }
 
 // Writes a handle back as a rule table.
@@ -46,5 +49,6 @@ pub extern "C" fn sheet_write_back(store: &[u32], a: u32, rule: &mut [u32]) -> A
     ensures { outcome result rule.new
         ≡ answered spec.written_answer (write_back limit.store_limits store.now a rule.old) }
 {
-    written_answer(write_back(store, a, rule))
+    let written = write_back(store, a, rule);
+    Answer::of(written, written_result(written))
 }

@@ -8,7 +8,7 @@ ghost use Rattle.store.specs.Open.{open_store};
 ghost use Rattle.store.specs.Outcome.{outcome};
 ghost use Rattle.terms.specs.Limits as limit;
 
-use crate::answers::{Answer, built_answer, opened_answer, raw_opened_answer};
+use crate::answers::{Answer, built_answer};
 use building::{build, choose, join, negate};
 use collecting::open_raw;
 use store::open;
@@ -19,7 +19,7 @@ pub extern "C" fn sheet_open(n: u32, order: u32, list: &[u32], store: &mut [u32]
     ensures { outcome result store.new
         ≡ answered spec.opened_answer (open_store limit.store_limits n order list.now store.old) }
 {
-    opened_answer(open(n, order, list, store))
+    Answer::of(open(n, order, list, store), 0)
 }
 
 // Opens a store for n fields and a list of equations as they come, sorted into the order that a number names.
@@ -28,7 +28,7 @@ pub extern "C" fn sheet_open_raw(n: u32, order: u32, raw: &[u32], store: &mut [u
     ensures { outcome result store.new
         ≡ answered spec.raw_opened_answer (open_raw limit.store_limits n order raw.now store.old) }
 {
-    raw_opened_answer(open_raw(n, order, raw, store))
+    Answer::of(open_raw(n, order, raw, store), 0)
 }
 
 // Adds the diagram of a rule table.

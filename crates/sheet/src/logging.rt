@@ -7,7 +7,7 @@ ghost use Rattle.store.specs.Open.{open_store};
 ghost use Rattle.store.specs.Outcome.{outcome};
 ghost use Rattle.terms.specs.Limits.{logger_limits};
 
-use crate::answers::{Answer, built_answer, opened_answer};
+use crate::answers::{Answer, built_answer};
 use logger::{logger_build, logger_open};
 
 // Opens a logger's store for n fields and a list of questions in the order that a number names.
@@ -16,7 +16,7 @@ pub extern "C" fn sheet_logger_open(n: u32, order: u32, list: &[u32], store: &mu
     ensures { outcome result store.new
         ≡ answered spec.opened_answer (open_store logger_limits n order list.now store.old) }
 {
-    opened_answer(logger_open(n, order, list, store))
+    Answer::of(logger_open(n, order, list, store), 0)
 }
 
 // Adds the diagram of a rule table to a logger's store.

@@ -22,14 +22,14 @@ enum Change<'a> {
 }
 
 // A change by the name of the call: opening takes the number of fields, the order and a list, build a table, and the others handles.
-fn change_of<'a>(name: &str, given: &Arguments, words: &'a [u32]) -> Change<'a> {
+fn change_of<'a>(name: &str, given: &Arguments, words: &'a [u32]) -> Option<Change<'a>> {
     let [a, b, c] = [given.number(0), given.number(1), given.number(2)];
     let opening = Opening {
         n: a,
         order: b,
         list: words,
     };
-    match name {
+    Some(match name {
         "open" => Change::Open(Side::Institute, opening),
         "logger_open" => Change::Open(Side::Logger, opening),
         "open_raw" => Change::OpenRaw(opening),
@@ -37,8 +37,9 @@ fn change_of<'a>(name: &str, given: &Arguments, words: &'a [u32]) -> Change<'a> 
         "negate" => Change::Add(Call::Negate(a)),
         "join" => Change::Add(Call::Join(a, b)),
         "choose" => Change::Add(Call::Choose(a, b, c)),
-        _ => Change::Add(Call::Build(words)),
-    }
+        "build" => Change::Add(Call::Build(words)),
+        _ => return None,
+    })
 }
 
 impl Change<'_> {
@@ -104,18 +105,20 @@ fn always_rows(alloc: Global, rows: u32) -> Result<Vec<u32>, AllocError> {
     Ok(table)
 }
 
-// A call with what stands after the bar, or with so many rows.
+// A call by its name, with what stands after the bar, or with so many rows.
 pub fn make_change(
     rt: &(impl Print + AllocGlobal),
     store: &mut [u32],
     name: &str,
     given: &Arguments,
 ) -> io::Result<()> {
-    match &given.listed {
-        Some(words) => make(rt, store, change_of(name, given, words.as_slice())),
-        None => {
-            let rows = always_rows(rt.alloc(), given.number(0))?;
-            make(rt, store, change_of(name, given, rows.as_slice()))
-        }
+    let rows = always_rows(rt.alloc(), given.number(0))?;
+    let words = match &given.listed {
+        Some(listed) => listed.as_slice(),
+        None => rows.as_slice(),
+    };
+    match change_of(name, given, words) {
+        Some(change) => make(rt, store, change),
+        None => Err(io::Error::from(io::ErrorKind::InvalidInput)),
     }
 }

@@ -36,7 +36,7 @@ pub fn ask_example(run: &mut Run, store: Store<'_>, handle: u32, length: usize) 
 
 // The length of a slice for a sheet: n counts, now and then one more or fewer.
 fn throw_length(chance: &mut Chance, store: Store<'_>) -> usize {
-    let n = store.fields() as usize % 4;
+    let n = store.fields().min(3) as usize;
     match chance.below(10) {
         0 => n + 1,
         1 => n / 2,

@@ -8,7 +8,7 @@ use sheet::sheet_read;
 
 // Any handle of the store, now and then one that it has not.
 pub fn throw_handle(chance: &mut Chance, store: Store<'_>) -> u32 {
-    let handles = store.used() % 4097 + 2;
+    let handles = store.used().min(4096) + 2;
     match chance.below(40) {
         // one of the next handles that would be there
         0 => chance.from_on(handles, 3),

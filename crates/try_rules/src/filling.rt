@@ -16,7 +16,7 @@ pub fn widest(order: u32) -> Form {
     Form {
         n: 1,
         questions: 20,
-        order: order,
+        order,
     }
 }
 

@@ -1,6 +1,4 @@
 // Generated lists of questions, in either order.
-ghost use Rattle.std.specs.Prelude.{◌<◌, ◌^◌};
-
 use crate::chance::Chance;
 use evaluator::{Equation, Opening, Words, field};
 
@@ -25,40 +23,24 @@ impl<const N: usize> List<N> {
     }
 }
 
-// The steps of up to three strides, as they stand in a term's word.
-fn strides(count: u32, stride: u32) -> u32
-    ensures { result < 2 ^ 17 }
-{
-    let size = stride % 1024 * 32;
-    match count {
-        0 => 0,
-        1 => size,
-        2 => 2 * size,
-        _ => 3 * size,
-    }
-}
-
 // An equation of two fields: steps 0 to 3 are so many strides on the right, and 4 to 6 are one to three on the left.
-fn equation_of(left: u32, right: u32, step: u32, stride: u32) -> Equation
-    requires { (left < 32) × (right < 32) }
-{
+fn equation_of(left: u32, right: u32, step: u32, stride: u32) -> Equation {
+    let size = stride.saturating_mul(32);
     if step < 4 {
         Equation {
-            left: left,
-            right: right + strides(step, stride),
+            left,
+            right: right.saturating_add(size.saturating_mul(step)),
         }
     } else {
         Equation {
-            left: left + strides(step - 3, stride),
-            right: right,
+            left: left.saturating_add(size.saturating_mul(step - 3)),
+            right,
         }
     }
 }
 
 // The equations of one left field in the older order: twelve with no steps on the left, then three with one stride there, and so on.
-fn older_equation(left: u32, place: u32, stride: u32) -> Equation
-    requires { (left < 32) × (place < 32) }
-{
+fn older_equation(left: u32, place: u32, stride: u32) -> Equation {
     if place < 12 {
         equation_of(left, place / 4, place % 4, stride)
     } else {
@@ -124,7 +106,7 @@ pub fn throw_list(chance: &mut Chance, far: bool) -> ShortList {
     for c in 0..63 {
         let equation = equation_at(c, order, stride);
         if words.len() < 16 && is_candidate(n, least, equation) && chance.once_in(times) {
-            words.extend_from_slice(&[equation.left, equation.right]);
+            words.extend_from_slice(&equation.words());
         }
     }
     List { n, order, words }

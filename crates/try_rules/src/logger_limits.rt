@@ -98,9 +98,9 @@ fn try_wrapping(run: &mut Run, form: Form) {
 // The stores of n fields within the limits, and with one entry more.
 fn try_within(run: &mut Run, n: u32, order: u32) {
     let form = Form {
-        n: n,
+        n,
         questions: 8,
-        order: order,
+        order,
     };
     try_last(run, form);
     try_full(run, form);
@@ -112,9 +112,9 @@ fn try_within(run: &mut Run, n: u32, order: u32) {
 fn try_wider(run: &mut Run, order: u32) {
     for (n, questions) in [(7, 8), (6, 9)] {
         let form = Form {
-            n: n,
-            questions: questions,
-            order: order,
+            n,
+            questions,
+            order,
         };
         try_form_beyond(run, form, 200);
     }

@@ -22,7 +22,7 @@ fn raise(list: &mut ShortList, more: u32) {
 
 // How many fields more than n there are to be: so that they are up to six, or, once in eight times, seven.
 fn throw_more(chance: &mut Chance, n: u32) -> u32 {
-    let most = 7 - n % 4;
+    let most = 7 - n.min(3);
     if chance.once_in(8) {
         chance.from_on(most, 1)
     } else {

@@ -5,7 +5,7 @@ use crate::chance::Chance;
 use crate::lists::{List, ShortList, throw_list};
 use crate::orders::throw_unknown;
 use crate::run::Run;
-use crate::spoiling::throw_place;
+use crate::spoiling::{throw_pair, throw_place};
 use evaluator::{
     Equation, HEADING, Opening, Refusal, Store, Words, at, expect_raw_opened, found_in,
 };
@@ -24,7 +24,7 @@ const MOST_STORE: usize = HEADING + MOST_THROWN_WORDS + 8;
 // One of the list's questions; or, if there are to be many, one of forty questions about field 1.
 fn throw_meant(chance: &mut Chance, list: &ShortList, many: bool) -> Equation {
     let number = chance.below(40);
-    let place = throw_place(chance, list) as usize / 2 * 2;
+    let place = throw_pair(chance, list);
     let words = list.words.room();
     if many {
         Equation {
@@ -41,7 +41,7 @@ fn throw_meant(chance: &mut Chance, list: &ShortList, many: bool) -> Equation {
 
 // An equation that is dropped: zero or one of n fields with itself, always or, a step apart, never; or it with two steps and zero, never.
 fn throw_dropped(chance: &mut Chance, n: u32) -> Equation {
-    let field = chance.below(n % 16 + 1);
+    let field = chance.below(n.saturating_add(1));
     let more = chance.below(3);
     Equation {
         left: 32 * more + field,
@@ -90,12 +90,12 @@ fn throw_raw(chance: &mut Chance) -> RawList {
     let mut words = Words::new();
     for _ in 0..count {
         let equation = throw_equation(chance, &list, many);
-        words.extend_from_slice(&[equation.left, equation.right]);
+        words.extend_from_slice(&equation.words());
     }
     List {
         n: list.n,
         order: list.order,
-        words: words,
+        words,
     }
 }
 

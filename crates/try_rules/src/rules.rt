@@ -19,7 +19,7 @@ fn asking(left: u32, right: u32) -> RowWords {
 fn throw_raise(chance: &mut Chance, gap: u32) -> u32
     ensures { result < 2 ^ 18 }
 {
-    let spare = MOST_STEPS - gap % (MOST_STEPS + 1);
+    let spare = MOST_STEPS.saturating_sub(gap);
     match chance.below(24) {
         0 => chance.from_on(spare, 2),
         1..=7 => chance.below(3),

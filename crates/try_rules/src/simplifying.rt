@@ -1,7 +1,7 @@
 // Simplify, against the evaluator: its refusal, the form of its question, and its truth at sheets.
 use crate::chance::Chance;
 use crate::run::Run;
-use evaluator::{Equation, Limits, MOST_STEPS, Refusal, Sheet, field, holds, put, steps};
+use evaluator::{Equation, Limits, MOST_STEPS, Refusal, Sheet, field, put, steps};
 use sheet::sheet_simplify;
 use terms::SimplifyAnswer;
 
@@ -58,7 +58,7 @@ fn truth(a: SimplifyAnswer, sheet: &Sheet) -> bool {
     match a.result {
         0 => false,
         1 => true,
-        _ => holds(sheet, question_of(a)),
+        _ => question_of(a).holds(sheet),
     }
 }
 
@@ -83,7 +83,7 @@ fn meeting(equation: Equation) -> Sheet {
 
 // Whether an equation and what it was simplified to are alike at a sheet.
 fn compare_at(run: &mut Run, equation: Equation, a: SimplifyAnswer, sheet: Sheet) {
-    run.agree(holds(&sheet, equation) == truth(a, &sheet));
+    run.agree(equation.holds(&sheet) == truth(a, &sheet));
 }
 
 fn compare_sheets(run: &mut Run, equation: Equation, a: SimplifyAnswer) {

@@ -8,15 +8,24 @@ use evaluator::{at, put};
 
 impl<const N: usize> List<N> {
     // Writes a word over one of the list's, at any place.
-    pub fn spoil_word(&mut self, place: u32, word: u32) {
-        put(self.words.room_mut(), place as usize, word);
+    pub fn spoil_word(&mut self, place: usize, word: u32) {
+        put(self.words.room_mut(), place, word);
     }
 }
 
 // Any place of a list.
-pub fn throw_place<const N: usize>(chance: &mut Chance, list: &List<N>) -> u32 {
+pub fn throw_place<const N: usize>(chance: &mut Chance, list: &List<N>) -> usize
+    ensures { result < 2 ^ 15 }
+{
     let length = u32::try_from(list.words.len()).unwrap_or(u32::MAX);
-    chance.below(length)
+    chance.below(length) as usize
+}
+
+// The place of any question of a list.
+pub fn throw_pair(chance: &mut Chance, list: &ShortList) -> usize
+    ensures { result < 2 ^ 15 }
+{
+    throw_place(chance, list) / 2 * 2
 }
 
 // Writes a thrown word over one of the list.
@@ -28,19 +37,21 @@ fn spoil_word(chance: &mut Chance, list: &mut ShortList, least: u32, bound: u32)
     list.spoil_word(place, word);
 }
 
-// Turns a question round, or writes it over the next one.
-fn spoil_pair(chance: &mut Chance, list: &mut ShortList, round: bool) {
-    let pair = throw_place(chance, list) as usize / 2 * 2;
+// Turns a question round.
+fn turn_pair(chance: &mut Chance, list: &mut ShortList) {
+    let pair = throw_pair(chance, list);
     let words = list.words.room_mut();
     let left = at(words, pair);
-    let right = at(words, pair + 1);
-    if round {
-        put(words, pair, right);
-        put(words, pair + 1, left);
-    } else {
-        put(words, pair + 2, left);
-        put(words, pair + 3, right);
-    }
+    put(words, pair, at(words, pair + 1));
+    put(words, pair + 1, left);
+}
+
+// Writes a question over the next one.
+fn double_pair(chance: &mut Chance, list: &mut ShortList) {
+    let pair = throw_pair(chance, list);
+    let words = list.words.room_mut();
+    put(words, pair + 2, at(words, pair));
+    put(words, pair + 3, at(words, pair + 1));
 }
 
 // Spoils a list in one of ten ways, or leaves it as it is. A list that is given with the other order may still be good.
@@ -53,8 +64,8 @@ pub fn spoil(chance: &mut Chance, list: &mut ShortList) {
         3 => spoil_word(chance, list, 32768, 2048),
         4 => spoil_word(chance, list, 32672, 128),
         5 => spoil_word(chance, list, 0, 128),
-        6 => spoil_pair(chance, list, true),
-        7 => spoil_pair(chance, list, false),
+        6 => turn_pair(chance, list),
+        7 => double_pair(chance, list),
         8 | 9 => list.order = other_order(list.order),
         10 => list.order = throw_unknown(chance),
         _ => {}

@@ -28,7 +28,7 @@ pub fn write_back(store: Store<'_>, handle: u32, length: usize) -> Written {
     let mut words = Words::filled(7, length);
     Written {
         answer: sheet_write_back(store.0, handle, words.as_mut_slice()),
-        words: words,
+        words,
     }
 }
 

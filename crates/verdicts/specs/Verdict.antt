@@ -6,7 +6,7 @@ use Rattle.store.specs.declared.verdict.Verdict.TheVariants.{Never, Always, Some
 use Rattle.store.specs.Layout.{question, is_handle}
 use Rattle.store.specs.Sound.{sound}
 use Rattle.store.specs.Tree.{tree}
-use Rattle.store.specs.VerdictWord.{verdict_word}
+use Rattle.store.specs.VerdictWord.{result_of_verdict}
 use Rattle.terms.specs.declared.limits.Limits.{Limits}
 use Rattle.terms.specs.Refusal.{answer_number}
 use Rattle.verdicts.specs.declared.answer.VerdictFault.{VerdictFault}
@@ -38,5 +38,4 @@ verdict_number = answer_number verdict_fault_number
 
 -- "0 never, 1 always, 2 sometimes"
 abbrev pub verdict_result : VerdictAnswer → ℕ
-verdict_result (Ok v) = verdict_word v
-verdict_result (Err f) = 0
+verdict_result = result_of_verdict

@@ -5,6 +5,6 @@ mod answer;
 mod deciding;
 mod leaves;
 
-pub use answer::{VerdictFault, verdict_result};
+pub use answer::VerdictFault;
 pub use deciding::{verdict_of, verdict_within};
 pub use leaves::{Leaves, leaves_from};

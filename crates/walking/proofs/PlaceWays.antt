@@ -1,10 +1,9 @@
 -- What placing an entry is on each way through the code: the tests on that way decide its own tests.
 use Prim.Native.Nat.{ℕ, ◌+◌, ◌≤◌, ◌<◌}
 use mathlib.Core.Path.{◌≡◌, ap, sym, ◌∙◌}
-use mathlib.Core.Logic.{◌≢◌}
 use mathlib.Core.List.{List}
 use native.Mathlib.Omega.{arith}
-use borrow.Author.Tests.{eq-eqb, ne_eqb, lt-ltb, le-ltb}
+use borrow.Author.Tests.{lt-ltb, le-ltb}
 use lib.Dec.{ltb}
 use Rattle.std.proofs.Common.{Option, Some, None, cond}
 use Rattle.diagram.specs.Insert.{add_entry, place_entry}
@@ -16,8 +15,7 @@ use Rattle.store.specs.Entries.{find_entry, with_entry}
 use Rattle.store.specs.Sound.{same_entry}
 use Rattle.terms.proofs.Cases.{by_lt}
 use Rattle.store.specs.Layout.{used, leaves, entry, room}
-use Rattle.store.specs.Outcome.{Outcome, outcome}
-use Rattle.walking.specs.Walk.{place_parts}
+use Rattle.store.specs.Outcome.{outcome}
 
 -- ---- placing
 module _ (limits : Limits) (s : List ℕ) (e : Entry) where
@@ -58,13 +56,3 @@ module _ (limits : Limits) (s : List ℕ) (e : Entry) {o : Option ℕ} {n : ℕ}
 
       pub placed_nowhere : r ≤ u → outcome None s ≡ place_entry limits s e
       placed_nowhere l = not_added limits s e (omega arith) ∙ absent
-
--- ---- two parts
-module _ (limits : Limits) (s : List ℕ) (e : Entry) where
-  pub same_parts : e.yes ≡ e.no → outcome (Some e.yes) s ≡ place_parts limits s e
-  unfolding place_parts
-  same_parts h = rw (eq-eqb e.yes e.no h)
-
-  pub two_parts : {o : Outcome (Option ℕ)} → e.yes ≢ e.no → o ≡ place_entry limits s e → o ≡ place_parts limits s e
-  unfolding place_parts
-  two_parts d h = rw (ne_eqb e.yes e.no d) h

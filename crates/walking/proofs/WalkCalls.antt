@@ -1,6 +1,6 @@
 -- Each call in the walk finds what it asks for: the question is one of the list, the facts hold one answer more at most, and the words that
 -- the yes part leaves are fit for the no part.
-use Prim.Native.Nat.{ℕ, ◌+◌, ◌-◌, ◌≤◌, ◌<◌}
+use Prim.Native.Nat.{ℕ, ◌+◌, ◌-◌, ◌≤◌}
 use mathlib.Core.Path.{◌≡◌, refl, sym, subst}
 use mathlib.Core.Logic.{◌≢◌}
 use mathlib.Core.List.{List}
@@ -59,9 +59,6 @@ module _ {limits : Limits} {s : List ℕ} {subject : Subject} {f : Facts} {k lef
       holds = holds_more (omega arith) h;
     }
 
-    pub can_skip : CanWalk limits s subject f (k + 1) (left - 1)
-    can_skip = can_next s f m.walkable (omega arith) refl (holds_more (omega arith) m.holds)
-
 -- ---- where the question is asked
 -- the value and the question are open, and g are the facts with a yes
 pub record Asking (limits : Limits) (s : List ℕ) (subject : Subject) (f : Facts) (k left : ℕ) (q : Equation) (g : Facts) : Type 0 where
@@ -79,9 +76,6 @@ module _ {limits : Limits} {s : List ℕ} {subject : Subject} {f : Facts} {k lef
 
   pub can_yes : CanWalk limits s subject g (k + 1) (left - 1)
   can_yes = can_next x.can x.more s g x.can.walkable (omega arith) refl (holds_more (omega arith) (holds_yes x.can.holds q small x.decides_open x.yes_is))
-
-  pub can_answer_no : Small most_count q × (f.noes.count < most_noes)
-  can_answer_no = (small, omega (arith, x.can.holds.few, x.can.from_one, listed x.can x.more, x.can.walkable.list_short))
 
   -- ---- after the yes part
   module _ {r : Option ℕ} {s₁ : List ℕ} (e₁ : outcome r s₁ ≡ walk limits s subject (left - 1) (k + 1) (state g)) where

@@ -9,14 +9,14 @@ use facts::{Decision, Facts, decision_of};
 use store::{LEAVES, entry_of, question_at, wide};
 
 // The value of a handle: its entries are followed while their questions are decided.
-pub fn handle_value(s: &[u32], handle: u32, f: Facts) -> Decision
-    requires { CanFollow s.now handle f }
-    ensures { result ≡ spec.handle_value s.now handle (facts.state f) }
+pub fn handle_value(s: &[u32], handle: u32, f: &Facts) -> Decision
+    requires { CanFollow s.now handle f.now }
+    ensures { result ≡ spec.handle_value s.now handle (facts.state f.now) }
 {
     let mut h = wide(handle);
     while LEAVES <= h {
         let e = entry_of(s, h - LEAVES);
-        h = match decision_of(f, question_at(s, wide(e.question))) {
+        h = match decision_of(*f, question_at(s, wide(e.question))) {
             Decision::Always => wide(e.yes),
             Decision::Never => wide(e.no),
             Decision::Open => return Decision::Open,

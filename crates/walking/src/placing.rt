@@ -1,4 +1,5 @@
-// Adding an entry to a store, unless it is there: an index over the entries finds one that is there.
+// Adding an entry to a store, unless it is there: an index over the entries finds one that is there. The store and its index are two loans and no
+// struct: an entry goes into the one after it is written to the other, so an invariant of both would not hold at each write.
 ghost use Rattle.std.specs.Prelude.{◌≡◌};
 ghost use Rattle.diagram.specs.Insert as spec;
 ghost use Rattle.store.specs.Outcome.{outcome};
@@ -29,6 +30,7 @@ pub fn place_entry(limits: Limits, store: &mut [u32], index: &mut Index, e: Entr
 }
 
 // The handle of a question and its two parts: if they are the same, that part stands.
+#[tactic(auto, unfolding(crate::specs::Walk::place_parts))]
 pub fn place_parts(limits: Limits, store: &mut [u32], index: &mut Index, e: Entry) -> Option<u32>
     requires { CanPlace limits store.old index.old }
     ensures store_after { outcome result store.new ≡ walking.place_parts limits store.old e }

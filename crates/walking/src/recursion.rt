@@ -32,17 +32,17 @@ fn leaf(d: Decision) -> u32
 
 // The diagram of the goal's subject under the facts, over the questions from the k-th on, of which so many are left.
 pub fn walk(
-    goal: Goal,
+    goal: &Goal,
     store: &mut [u32],
     index: &mut Index,
-    f: Facts,
+    f: &Facts,
     k: u32,
     left: u32,
 ) -> Option<u32>
-    requires can_walk { CanWalk goal.limits store.old goal.subject f k left }
+    requires can_walk { CanWalk goal.now.limits store.old goal.now.subject f.now k left }
     requires in_index { InIndex store.old index.old }
     ensures store_after { outcome result store.new
-        ≡ spec.walk goal.entry.limits store.old goal.entry.subject left k (facts.state f) }
+        ≡ spec.walk goal.now.limits store.old goal.now.subject left k (facts.state f.now) }
     ensures in_index_2 { InIndex store.new index.new }
 {
     let known = value(store, goal.subject, f);
@@ -53,12 +53,12 @@ pub fn walk(
         return Some(leaf(known));
     };
     let q = question_at(store, wide(k));
-    let Asked::Open(yes) = ask(f, q) else {
+    let Asked::Open(yes) = ask(*f, q) else {
         return walk(goal, store, index, f, k + 1, left - 1);
     };
-    let other = no(f, q);
-    let y = walk(goal, store, index, yes, k + 1, left - 1)?;
-    let n = walk(goal, store, index, other, k + 1, left - 1)?;
+    let other = no(*f, q);
+    let y = walk(goal, store, index, &yes, k + 1, left - 1)?;
+    let n = walk(goal, store, index, &other, k + 1, left - 1)?;
     let e = Entry {
         question: k,
         yes: y,

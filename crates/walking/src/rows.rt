@@ -23,13 +23,14 @@ fn part_value(part: Part, before: &[Decision]) -> Decision
 }
 
 // The value of the i-th row, given what is said of the rows before it.
-fn row_value(table: &[u32], i: usize, before: &[Decision], f: Facts) -> Decision
-    requires { AsksRow table.now i before.now f }
-    ensures { result ≡ spec.row_value (facts.state f) (said before.now) (row table.now i) }
+#[tactic(auto, using(crate::proofs::RowValues::asks_ready))]
+fn row_value(table: &[u32], i: usize, before: &[Decision], f: &Facts) -> Decision
+    requires { AsksRow table.now i before.now f.now }
+    ensures { result ≡ spec.row_value (facts.state f.now) (said before.now) (row table.now i) }
 {
     match decode(row_at(table, i)) {
         Shape::Leaf(b) => leaf_value(b),
-        Shape::Equation(e) => decision_of(f, e),
+        Shape::Equation(e) => decision_of(*f, e),
         Shape::Choice {
             first,
             second,
@@ -43,9 +44,9 @@ fn row_value(table: &[u32], i: usize, before: &[Decision], f: Facts) -> Decision
 }
 
 // The value of a table: that of its last row.
-pub fn table_value(table: &[u32], f: Facts) -> Decision
-    requires { AsksTable table.now f }
-    ensures { result ≡ spec.table_value table.now (facts.state f) }
+pub fn table_value(table: &[u32], f: &Facts) -> Decision
+    requires { AsksTable table.now f.now }
+    ensures { result ≡ spec.table_value table.now (facts.state f.now) }
 {
     let mut values = [Decision::Never; MOST_ROWS];
     let rows = table.len() / ROW_LENGTH;

@@ -4,7 +4,7 @@ ghost use Rattle.walking.specs.Value as spec;
 
 use facts::Decision;
 
-// The value of a leaf.
+// The value of a leaf. A function and no `From<bool>`, which would stand beside `Decision` in facts, where no leaf is known.
 pub fn leaf_value(b: bool) -> Decision
     ensures { result ≡ spec.leaf_value b }
 {

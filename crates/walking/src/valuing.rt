@@ -11,9 +11,9 @@ use crate::truths::choose_value;
 use facts::{Decision, Facts};
 
 // The value of a table, or of three handles of the store.
-pub fn value(s: &[u32], subject: Subject, f: Facts) -> Decision
-    requires { HasValue s.now subject f }
-    ensures { result ≡ spec.subject_value s.now subject.entry (facts.state f) }
+pub fn value(s: &[u32], subject: Subject, f: &Facts) -> Decision
+    requires { HasValue s.now subject f.now }
+    ensures { result ≡ spec.subject_value s.now subject.entry (facts.state f.now) }
 {
     match subject {
         Subject::Table(rows) => table_value(rows, f),

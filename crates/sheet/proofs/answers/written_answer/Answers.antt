@@ -1,6 +1,0 @@
--- `written_answer` meets its contract: each of its numbers is the one that its definition gives.
-use Rattle.sheet.proofs.PassedOn.{same_answer}
-use Rattle.sheet.proofs.answers.written_answer.Goals as goal
-
-pub returns : goal.returns
-returns c = same_answer c.written_number.ensures c.written_result.ensures
