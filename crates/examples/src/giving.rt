@@ -44,6 +44,7 @@ pub fn example_within(
     requires { FitLimits limits }
     ensures { outcome result out.new ≡ spec.example limits s.now handle out.old }
 {
+    // Each operation makes these two tests: a shared one would give a fault of its own, and converting it is as long as the tests.
     if !is_sound(limits, s) {
         return Err(ExampleFault::NotSound);
     }

@@ -2,11 +2,11 @@
 ghost use Rattle.facts.specs.Needs as need;
 ghost use Rattle.facts.specs.Record as spec;
 
-use crate::adding::added;
 use crate::deciding::decision_of;
 use crate::decision::Decision;
 use crate::fact::Fact;
 use crate::record::Facts;
+use crate::working::with_fact;
 use terms::Equation;
 
 // What the facts say of a question: where it is open, with the facts that have it answered yes.
@@ -25,7 +25,7 @@ pub fn ask(f: Facts, q: Equation) -> Asked
     match decision_of(f, q) {
         Decision::Always => Asked::Always,
         Decision::Never => Asked::Never,
-        Decision::Open => Asked::Open(added(
+        Decision::Open => Asked::Open(with_fact(
             f,
             Fact {
                 question: q,

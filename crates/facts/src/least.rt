@@ -8,7 +8,7 @@ use crate::asking::yes;
 use crate::record::{FIELDS, Facts, offset_of};
 use terms::{Equation, Field, Steps, Term};
 
-// The counts of a sheet, each at its field's number.
+// The counts of a sheet, each at its field's number: the library has no heap, so there is a place for every field.
 #[derive(Clone, Copy)]
 pub struct Sheet {
     pub counts: [u32; FIELDS],
@@ -38,6 +38,7 @@ fn fix_field(f: &mut Facts, x: Field) -> u32
 {
     let old = *f;
     let mut count = offset_of(old, x);
+    // A search upwards has no end to give a range; that it ends is proved by the least count.
     loop {
         if let Some(g) = yes(old, has_count(x, count)) {
             *f = g;

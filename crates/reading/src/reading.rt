@@ -62,6 +62,7 @@ pub fn read_sound(s: &[u32], handle: u32, sheet: &[u16]) -> bool
     ensures { result ≡ meaning.meaning s.now handle (sheet_counts sheet.now) }
 {
     let mut h = wide(handle);
+    // The way down follows handles, so there is no index to go over.
     while LEAVES <= h {
         h = next_of(s, h, sheet);
     }
@@ -74,6 +75,7 @@ pub fn read_within(limits: Limits, s: &[u32], handle: u32, sheet: &[u16]) -> Res
     requires { FitLimits limits }
     ensures { result ≡ spec.read_sheet limits s.now handle sheet.now }
 {
+    // Each operation makes these two tests: a shared one would give a fault of its own, and converting it is as long as the tests.
     if !is_sound(limits, s) {
         return Err(ReadFault::NotSound);
     }

@@ -9,7 +9,7 @@ use terms::MOST_ENTRIES;
 // How many handles a store has at most, those of the leaves among them.
 const HANDLES: usize = MOST_ENTRIES as usize + LEAVES;
 
-// Whether each handle is reachable, and the row of each handle.
+// Whether each handle is reachable, and the row of each handle. The library has no heap: there is room for every handle.
 #[derive(Clone, Copy)]
 pub struct Reach {
     pub marks: [bool; HANDLES],
