@@ -24,9 +24,6 @@ module _ (j : Join) (old : List Place) where
     pub done : (k : ℕ) → k < i → get_or new k (own_place k) ≡ place_joined j (get_or old k (own_place k))
     pub left : (k : ℕ) → i ≤ k → get_or new k (own_place k) ≡ get_or old k (own_place k)
 
-  pub joining_none : length old ≡ field_places → Joining 0 old
-  joining_none l = record { old_size = l; size = l; done = λ k h. absurd (omega arith); left = λ k h. refl }
-
   pub joining_next : {i : ℕ} {new : List Place} {p q : Place} → Joining i new → i < length new → p ≡ get_or new i p → q ≡ place_joined j p → Joining (i + 1) (set new i q)
   joining_next {i} {new} {p} {q} n h ep eq = record {
     old_size = n.old_size;
