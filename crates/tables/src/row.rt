@@ -7,7 +7,7 @@ pub const ROW_LENGTH: usize = 4;
 
 pub const MOST_ROWS: usize = 256;
 
-// A kind and three columns, as the words stand: a table is lent from C, and 34 is for its unknown kinds, so a row keeps the number and kind_of tells the Kind.
+// A kind and three columns, as the words stand: a table is lent from C, and 34 is for its unknown kinds, so a row keeps the number and `Kind::try_from` tells the kind.
 #[derive(Clone, Copy, Debug, PartialEq, Eq)]
 pub struct Row {
     pub kind: u32,

@@ -15,6 +15,18 @@ pub enum ListOrder {
 #[derive(Clone, Copy, Debug, PartialEq, Eq)]
 pub struct UnknownOrder;
 
+impl From<ListOrder> for u32 {
+    // The word that names an order.
+    fn from(order: ListOrder) -> u32
+        ensures { result ≡ spec.order_number order }
+    {
+        match order {
+            ListOrder::FieldsFirst => 0,
+            ListOrder::LeftFirst => 1,
+        }
+    }
+}
+
 impl TryFrom<u32> for ListOrder {
     type Error = UnknownOrder;
 

@@ -16,7 +16,8 @@ pub enum Guard {
     Question(Equation),
 }
 
-// What simplify answers: a question by its two term words and its gap, right steps minus left steps.
+// What simplify answers: a question by its two term words and its gap, right steps minus left steps. Not one generic enum with Guard: the definitions
+// match on both by name, and the parameter would stand in each of them.
 #[derive(Clone, Copy, Debug, PartialEq, Eq)]
 pub enum Simplified {
     Never,
@@ -119,7 +120,7 @@ fn gap(e: Equation) -> i32
     e.right.steps.0 as i32 - e.left.steps.0 as i32
 }
 
-// A guard as an answer: a question by its words and gap.
+// A guard as an answer: a question by its words and gap. Not a From, since not every question has words.
 fn shown(g: Guard) -> Simplified
     requires { HasWords g }
     ensures { result ≡ spec.shown g }
