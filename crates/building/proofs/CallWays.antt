@@ -1,24 +1,22 @@
 -- What build, negate, join and choose are on each way through the code: soundness, then the table or the handles, then the finished diagram is added. Not a
 -- is if a then never else always, and a and b is if a then b else never: the leaves are handles of every store.
-use Prim.Native.Nat.{ℕ, ◌+◌, ◌≤◌, ◌<◌}
+use Prim.Native.Nat.{ℕ, ◌+◌, ◌<◌}
 use mathlib.Core.Path.{◌≡◌, refl, sym, ap, ◌∙◌}
-use mathlib.Core.Bool.{Bool, true, false, cond, not, ◌&&◌, and-true, and-false}
+use mathlib.Core.Bool.{Bool, true, false, cond, not, ◌&&◌, and-true}
 use mathlib.Core.List.{List}
 use mathlib.Core.Option.{Option, none, some}
 use native.Mathlib.Omega.{arith}
-use borrow.Author.Tests.{ltb-true, lt-ltb}
+use borrow.Author.Tests.{lt-ltb}
 use lib.Dec.{eqb}
-use lib.ListN.{length}
-use Rattle.std.proofs.Common.{Bor, Ok, Err}
+use Rattle.std.proofs.Common.{Ok, Err}
 use Rattle.std.specs.Result.{IsErr, IsErrAnd}
 use Rattle.std.proofs.lemmas.Result.{err_from_is_err_and}
-use Rattle.building.specs.Needs.{are_handles, CanChoose}
-use Rattle.inserting.specs.Needs.{CanAdd}
+use Rattle.building.specs.Needs.{are_handles}
 use Rattle.inserting.specs.SubjectMeaning.{choice}
 use Rattle.operations.specs.declared.answer.BuildFault.TheVariants.{NotSound, NoHandle, BadTable}
 use Rattle.operations.specs.Built.{Built}
 use Rattle.operations.specs.Operations.{refused, if_sound, if_handles, if_taken, added, add_meaning, build, negate, join, choose}
-use Rattle.store.specs.Layout.{heading_length, used, leaves, entries_start, is_handle}
+use Rattle.store.specs.Layout.{used, leaves, is_handle}
 use Rattle.store.specs.Meaning.{meaning}
 use Rattle.store.specs.Outcome.{Outcome, outcome}
 use Rattle.store.specs.Sound.{sound}
@@ -28,12 +26,8 @@ use Rattle.tables.specs.Rows.{rule_meaning}
 use Rattle.tables.specs.TableFault.{Checked, checked}
 use Rattle.terms.specs.declared.limits.Limits.{Limits}
 use Rattle.terms.specs.Meaning.{Valuation}
-use Rattle.terms.specs.Needs.{FitLimits}
-use Rattle.walking.specs.declared.subject.Subject.TheVariants.{Table, Choice}
 use Rattle.operations.proofs.FinishedInStore.{finished_alike}
 use Rattle.store.proofs.ByHandles.{leaf_stays}
-use Rattle.store.proofs.SoundFacts.{sound_says}
-use Rattle.store.proofs.Tests.{passes}
 
 -- ---- not and and, as choices
 module _ (limits : Limits) (s : List ℕ) where
@@ -100,12 +94,6 @@ module _ (limits : Limits) (s : List ℕ) {t : Bool} (et : t ≡ sound limits s)
   module _ (e : t ≡ true) where
     sound_is : sound limits s ≡ true
     sound_is = sym et ∙ e
-
-    pub list_within : entries_start s ≤ length s
-    list_within = (sound_says limits s sound_is).list_in
-
-    pub heading_within : heading_length ≤ length s
-    heading_within = omega (arith, list_within)
 
     -- ---- a table
     module _ (table : List ℕ) {f : Checked} (ef : f ≡ checked (table_fault limits s table)) where

@@ -1,7 +1,6 @@
 // Build, negate, join and choose.
 ghost use Rattle.std.specs.Prelude.{◌≡◌, ◌≤◌, length};
-ghost use Rattle.building.specs.Needs.{are_handles, CanChoose};
-ghost use Rattle.inserting.specs.SubjectMeaning.{choice};
+ghost use Rattle.building.specs.Needs.{are_handles};
 ghost use Rattle.operations.specs.Operations as operation;
 ghost use Rattle.store.specs.Layout as layout;
 ghost use Rattle.store.specs.Outcome.{outcome};
@@ -21,11 +20,11 @@ pub fn build_within(limits: Limits, store: &mut [u32], table: &[u32]) -> Result<
     requires { FitLimits limits }
     ensures { outcome result store.new ≡ operation.build limits store.old table.now }
 {
-    if is_sound(limits, store) {
-        table_fault(limits, store, table)?;
-        return add(limits, store, Subject::Table(table));
+    if !is_sound(limits, store) {
+        return Err(BuildFault::NotSound);
     }
-    Err(BuildFault::NotSound)
+    table_fault(limits, store, table)?;
+    add(limits, store, Subject::Table(table))
 }
 
 // The handles of the leaves.
@@ -33,36 +32,15 @@ const NEVER: u32 = 0;
 
 const ALWAYS: u32 = 1;
 
-// Adds the diagram of if a then b else c, of handles of a sound store.
-fn add_choice(limits: Limits, store: &mut [u32], a: u32, b: u32, c: u32) -> Result<u32, BuildFault>
-    requires { CanChoose limits store.old a b c }
-    ensures { outcome result store.new ≡ operation.add_meaning limits store.old (choice store.old a b c) }
-{
-    add(
-        limits,
-        store,
-        Subject::Choice {
-            first: a,
-            second: b,
-            third: c,
-        },
-    )
-}
-
 // Whether three handles are handles of the store.
 fn has_handles(s: &[u32], a: u32, b: u32, c: u32) -> bool
     requires { layout.heading_length ≤ length s.now }
     ensures { result ≡ are_handles s.now a b c }
 {
-    if has_handle(s, a) {
-        if has_handle(s, b) {
-            return has_handle(s, c);
-        }
-    }
-    false
+    has_handle(s, a) && has_handle(s, b) && has_handle(s, c)
 }
 
-// Adds the diagram of if a then b else c within limits.
+// Adds the diagram of if a then b else c within limits. The three handles stay apart, as C gives them.
 pub fn choose_within(
     limits: Limits,
     store: &mut [u32],
@@ -73,13 +51,21 @@ pub fn choose_within(
     requires { FitLimits limits }
     ensures { outcome result store.new ≡ operation.choose limits store.old a b c }
 {
-    if is_sound(limits, store) {
-        if has_handles(store, a, b, c) {
-            return add_choice(limits, store, a, b, c);
-        }
+    if !is_sound(limits, store) {
+        return Err(BuildFault::NotSound);
+    }
+    if !has_handles(store, a, b, c) {
         return Err(BuildFault::NoHandle);
     }
-    Err(BuildFault::NotSound)
+    add(
+        limits,
+        store,
+        Subject::Choice {
+            first: a,
+            second: b,
+            third: c,
+        },
+    )
 }
 
 // Adds the diagram of a and b within limits: if a then b else never.

@@ -11,7 +11,8 @@ use normal_form::Entry;
 #[derive(Clone, Copy, PartialEq, Eq)]
 pub struct TableEntry(Entry);
 
-// The entries of a table begin at its first word, so no start is looked at.
+// The entries of a table begin at its first word, so no start is looked at. Each kind of entry has its own sum for the bucket: a shared one over a list of
+// words and factors needs a bound of the sum for every length.
 impl Indexed for TableEntry {
     ghost fits = { λ t _ k. HasEntries t k };
 

@@ -15,7 +15,7 @@ pub const CAPACITY: usize = MOST_TABLE_ENTRIES as usize;
 
 pub const HANDLES: usize = CAPACITY + LEAVES;
 
-// A flag for each handle.
+// A flag for each handle: the library has no heap, so there is a place for the most.
 pub type Flags = [bool; HANDLES];
 
 // The i-th entry.

@@ -1,4 +1,5 @@
 // Number 85: an entry that is not reachable from the root. Handles are lower than their entry's own, so one pass down marks all that are.
+// The pass stands again in writing for a store's entries: the definitions of the two are apart, and a trait would state both as laws.
 ghost use Rattle.std.specs.Prelude.{◌≡◌, false, ◌<◌, replicate};
 ghost use Rattle.checking.specs.Needs.{most_handles};
 ghost use Rattle.normal_form.specs.Check as rule;

@@ -13,7 +13,7 @@ use crate::entries::{HANDLES, equation_of};
 use crate::sets::{both_fields, has_field};
 use store::{LEAVES, wide};
 
-// For each handle the fields named at or below it.
+// For each handle the fields named at or below it. The library has no heap: there is a place for every handle.
 type FieldSets = [u32; HANDLES];
 
 impl Diagram<'_> {

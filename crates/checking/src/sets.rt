@@ -1,4 +1,4 @@
-// A set of fields in one word: the bit f stands for field f.
+// A set of fields in one word: the bit f stands for field f. No type of its own, which would be taken apart at each bit.
 ghost use Rattle.std.specs.Prelude.{◌≡◌, ◌<◌, ◌^◌};
 ghost use Rattle.checking.specs.FieldSets.{both_fields, has_field};
 ghost use Rattle.checking.specs.Needs.{bits, SmallFields};

@@ -1,7 +1,7 @@
 -- An accepted opening with a raw list is what open does with the resulting list: that list ascends, its questions are simplified and within the limits, and the tests of
 -- its length are open's. So the store is sound, and no question of it can be 15 or 16.
 use Prim.Native.Nat.{ℕ, ◌*◌, ◌/◌}
-use mathlib.Core.Path.{◌≡◌, refl, sym, ap, ◌∙◌}
+use mathlib.Core.Path.{◌≡◌, sym, ap, ◌∙◌}
 use mathlib.Core.Bool.{true}
 use mathlib.Core.List.{List}
 use native.Mathlib.Omega.{arith}
@@ -17,8 +17,8 @@ use Rattle.store.proofs.OpenSound.{opened_sound}
 use Rattle.terms.specs.declared.limits.Limits.{Limits}
 use Rattle.terms.specs.declared.order.ListOrder.{ListOrder}
 use Rattle.terms.specs.Limits.{terms_within}
-use Rattle.terms.specs.Order.{order_of, order_number, order_named}
-use Rattle.terms.proofs.OrderNumbers.{number_names, number_only}
+use Rattle.terms.specs.Order.{order_of, order_number}
+use Rattle.terms.proofs.OrderNumbers.{number_only}
 use Rattle.terms.proofs.QuestionOrder.{orders_strict_total}
 use Rattle.raw_lists.specs.Equations.{equations}
 use Rattle.raw_lists.specs.IsResulting.{IsResulting}

@@ -101,8 +101,5 @@ module _ {s : List ℕ} {h : ℕ} {sheet : List ℕ} (r : Readable s h sheet) wh
 
 -- ---- the operation
 module _ (limits : Limits) (s : List ℕ) {b : Bool} (eb : b ≡ sound limits s) (t : b ≡ true) where
-  pub heading_in : heading_length ≤ length s
-  heading_in = omega (arith, (sound_says limits s (sym eb ∙ t)).list_in)
-
   pub can_read : {h : ℕ} {sheet : List ℕ} {a : Bool} → FitLimits limits → a ≡ is_handle s h → a ≡ true → length sheet ≡ field_count s → Readable s h sheet
   can_read {h} fit ea f l = record { limits = limits; fit = fit; sound_in = sym eb ∙ t; handle_in = ltb-true h (used s + leaves) (sym ea ∙ f); length_is = l }

@@ -75,7 +75,7 @@ pub fn read_within(limits: Limits, s: &[u32], handle: u32, sheet: &[u16]) -> Res
     requires { FitLimits limits }
     ensures { result ≡ spec.read_sheet limits s.now handle sheet.now }
 {
-    // Each operation makes these two tests: a shared one would give a fault of its own, and converting it is as long as the tests.
+    // Each operation makes these two tests itself: a shared one would be given its two faults, and what it says of the store taken apart again here.
     if !is_sound(limits, s) {
         return Err(ReadFault::NotSound);
     }

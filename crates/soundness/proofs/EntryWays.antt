@@ -1,17 +1,15 @@
 -- What the rules of an entry say on each way through the code, and that an entry whose numbers keep their rules names entries before it alone.
-use Prim.Native.Nat.{ℕ, ◌+◌, ◌-◌, ◌<◌}
+use Prim.Native.Nat.{ℕ, ◌+◌, ◌<◌}
 use mathlib.Core.Path.{◌≡◌, ◌∙◌, ap, sym}
 use mathlib.Core.Bool.{Bool, true, false, not, ◌&&◌, and-false}
 use mathlib.Core.List.{List}
 use native.Mathlib.Omega.{arith}
 use borrow.Author.Tests.{ltb-true}
 use lib.Dec.{eqb, leb, ltb}
-use Rattle.index.specs.Needs.{EntriesFit}
-use Rattle.soundness.specs.Needs.{numbers_sound, NamesEntry}
+use Rattle.soundness.specs.Needs.{numbers_sound}
 use Rattle.store.specs.declared.entries.Entry.{Entry}
 use Rattle.store.specs.Layout.{question_count, entry, leaves}
 use Rattle.store.specs.Sound.{asks_before, entry_sound}
-use Rattle.index.proofs.IndexLaws.{entry_in}
 use Rattle.store.proofs.Tests.{first_passes, second_passes}
 
 -- ---- an entry
@@ -39,16 +37,13 @@ module _ (s : List ℕ) (i : ℕ) {questions : ℕ} {e : Entry} (ee : e ≡ entr
   pub numbers_fail : b ≡ false → false ≡ entry_sound s i
   numbers_fail d = rw (← entry_parts, ← eb, d)
 
-  module _ (t : b ≡ true) {start : ℕ} (f : EntriesFit s start (i + 1)) where
-    -- a handle smaller than the entry's own names one of the entries before it
-    named_before : (h : ℕ) → h < i + leaves → NamesEntry s start h
-    named_before h l = record { named = λ k. entry_in s (h - leaves) (omega arith) f }
+  -- its handles are those of leaves or of entries before it
+  module _ (t : b ≡ true) {count : ℕ} (l : i < count) where
+    pub yes_low : {y : ℕ} → y ≡ e.yes → y < count + leaves
+    yes_low ey = let h = (handles_low questions i e (sym eb ∙ t)).0 in omega (arith, ey, h)
 
-    pub yes_named : {y : ℕ} → y ≡ e.yes → NamesEntry s start y
-    yes_named ey = named_before _ (rw ey (handles_low questions i e (sym eb ∙ t)).0)
-
-    pub no_named : {n : ℕ} → n ≡ e.no → NamesEntry s start n
-    no_named en = named_before _ (rw en (handles_low questions i e (sym eb ∙ t)).1)
+    pub no_low : {n : ℕ} → n ≡ e.no → n < count + leaves
+    no_low en = let h = (handles_low questions i e (sym eb ∙ t)).1 in omega (arith, en, h)
 
   module _ {y : ℕ} {a : Bool} (ey : y ≡ e.yes) (ea : a ≡ asks_before s e y) where
     yes_asks : {v : Bool} → a ≡ v → asks_before s e e.yes ≡ v

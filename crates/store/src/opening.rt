@@ -87,8 +87,8 @@ fn opening_in(
     Ok(())
 }
 
-// What opening a store of so many words answers. The number of fields, the order and the list stay apart: C lends them so, each is read by one function
-// alone, and a struct of three would be taken apart in each body and named in each clause.
+// What opening a store of so many words answers. The number of fields, the order and the list stay apart: C lends them so, and
+// a struct of three would be taken apart in each body and named in each clause.
 #[tactic(auto, unfolding(crate::specs::Open::opening))]
 fn first_fault(
     limits: Limits,

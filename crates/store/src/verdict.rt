@@ -22,7 +22,7 @@ impl From<Verdict> for u32 {
     }
 }
 
-// The result of an answer with a verdict, 0 beside a refusal.
+// The result of an answer with a verdict, 0 beside a refusal; a function of its own, as in reading.
 pub fn verdict_result<F: Copy>(answer: Result<Verdict, F>) -> u32
     ensures { result ≡ result_of_verdict answer }
 {

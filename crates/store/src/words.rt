@@ -8,10 +8,11 @@ use terms::{Equation, Limits};
 // The words before the list: n, the number of questions, the entries used, and the order.
 pub const HEADING: usize = 4;
 
-// The handles of the leaves never and always come before those of the entries.
+// The handles of the leaves never and always, 0 and 1, come before those of the entries. A handle stays a number, as words hold it and the documents
+// count it: an enum of leaf or entry would be made and taken apart at each step.
 pub const LEAVES: usize = 2;
 
-// A word as a number of words, of entries or of handles. A function, where `as` says no more: its name tells at fifty places that nothing is cut off.
+// A word as a number of words, of entries or of handles. A function, where `as` says no more: its name tells at sixty places that nothing is cut off.
 pub fn wide(word: u32) -> usize
     ensures { result ≡ word }
 {

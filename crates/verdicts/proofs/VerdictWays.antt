@@ -1,4 +1,4 @@
--- A sound store has a heading, and a walk can start at a handle of it from no facts.
+-- A walk can start at a handle of a sound store from no facts.
 use Prim.Native.Nat.{ℕ, ◌+◌, ◌≤◌}
 use mathlib.Core.Path.{◌≡◌, sym, ◌∙◌}
 use mathlib.Core.Bool.{Bool, true}
@@ -18,8 +18,5 @@ use Rattle.store.proofs.SoundFacts.{sound_says}
 use Rattle.verdicts.proofs.DescentLaws.{descent_starts}
 
 module _ (limits : Limits) (s : List ℕ) {b : Bool} (eb : b ≡ sound limits s) (e : b ≡ true) where
-  pub has_heading : heading_length ≤ length s
-  has_heading = omega (arith, (sound_says limits s (sym eb ∙ e)).list_in)
-
   pub can_start : {handle h : ℕ} {c : Bool} → FitLimits limits → c ≡ is_handle s handle → c ≡ true → h ≡ handle → (f : Facts) → state f ≡ start → CanDescend s h f
   can_start {handle} {h} fit ec d eh f ef = descent_starts limits s fit (sym eb ∙ e) h (omega (arith, ltb-true handle (used s + leaves) (sym ec ∙ d))) f ef

@@ -28,7 +28,7 @@ pub fn verdict_within(limits: Limits, s: &[u32], handle: u32) -> Result<Verdict,
     requires { FitLimits limits }
     ensures { result ≡ spec.verdict limits s.now handle }
 {
-    // Each operation makes these two tests: a shared one would give a fault of its own, and converting it is as long as the tests.
+    // Each operation makes these two tests itself: a shared one would be given its two faults, and what it says of the store taken apart again here.
     if !is_sound(limits, s) {
         return Err(VerdictFault::NotSound);
     }

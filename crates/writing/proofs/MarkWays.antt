@@ -6,7 +6,6 @@ use mathlib.Core.Bool.{Bool, true, false}
 use mathlib.Core.List.{List}
 use native.Mathlib.Omega.{arith}
 use native.Mathlib.Decide.{ℕ_discrete}
-use native.Mathlib.Numerals.{add-one}
 use lib.ListN.{length, get_or, set, replicate, length-set, length-replicate}
 use lib.Seq.{get_or-set_same, get_or-set_other}
 use Rattle.std.specs.Int.{from_bool}
@@ -26,14 +25,6 @@ pub record Marking (s : List ℕ) (handle : ℕ) (first marks : List Bool) (h : 
   pub up_to : h ≤ suc handle
   pub size : length marks ≡ most_handles
   pub left : marks_down s (h - leaves) marks ≡ marks_down s (suc handle - leaves) first
-
-pub marking_begins : {s : List ℕ} {handle : ℕ} {marks : List Bool} → marks ≡ replicate most_handles false
-    → Marking s handle (set marks handle true) (set marks handle true) (handle + 1)
-marking_begins {s} {handle} {marks} e = record {
-  up_to = omega arith;
-  size = length-set marks handle true ∙ ap length e ∙ length-replicate most_handles false;
-  left = ap (λ k. marks_down s (k - leaves) (set marks handle true)) (add-one handle);
-}
 
 module _ {s : List ℕ} {handle : ℕ} (k : Handled s handle) where
   pub handle_fits : handle < most_handles

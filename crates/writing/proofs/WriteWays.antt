@@ -7,7 +7,7 @@ use native.Mathlib.Omega.{arith}
 use borrow.Author.Tests.{lt-ltb, le-ltb, ltb-true}
 use lib.Dec.{eqb}
 use lib.ListN.{length, drop}
-use Rattle.store.specs.Layout.{heading_length, used, leaves, is_handle}
+use Rattle.store.specs.Layout.{used, leaves, is_handle}
 use Rattle.store.specs.Outcome.{outcome}
 use Rattle.store.specs.Sound.{sound}
 use Rattle.tables.specs.Rows.{row_length, most_rows}
@@ -19,7 +19,6 @@ use Rattle.std.specs.Prelude.{Ok, Err}
 use Rattle.writing.specs.declared.marking.Reach.{Reach}
 use Rattle.writing.specs.Needs.{Handled, Marked, Numbered, put, Writable}
 use Rattle.writing.specs.WriteBack.{reachable, written_rows, written_count, rows_written}
-use Rattle.store.proofs.SoundFacts.{sound_says}
 use Rattle.writing.proofs.MarkWays.{handle_fits}
 use Rattle.writing.proofs.MarkedRows.{before_few, count_alike, row_alike}
 use Rattle.writing.proofs.WrittenRows.{written_length}
@@ -63,8 +62,5 @@ module _ {s : List ℕ} {handle : ℕ} {marks : List Bool} {r : Reach} {n : ℕ}
             (ap (outcome (Ok count)) (d ∙ ap (λ x. written_rows s handle ++ drop x out) z))
 
 module _ (limits : Limits) (s : List ℕ) {b : Bool} (eb : b ≡ sound limits s) (t : b ≡ true) where
-  pub heading_in : heading_length ≤ length s
-  heading_in = omega (arith, (sound_says limits s (sym eb ∙ t)).list_in)
-
   pub is_handled : {h g : ℕ} {a : Bool} → FitLimits limits → a ≡ is_handle s h → a ≡ true → g ≡ h → Handled s g
   is_handled {h} fit ea f eg = rw eg (record { limits = limits; sound_in = sym eb ∙ t; fit = fit; handle_in = ltb-true h (used s + leaves) (sym ea ∙ f) })

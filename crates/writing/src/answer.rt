@@ -26,7 +26,7 @@ impl Refusal for WriteFault {
     }
 }
 
-// The result of an answer.
+// The result of an answer; a function of its own, as in reading.
 pub fn written_result(w: Result<u32, WriteFault>) -> u32
     ensures { result ≡ spec.written_result w }
 {

@@ -9,7 +9,9 @@ use terms::MOST_ENTRIES;
 // How many handles a store has at most, those of the leaves among them.
 const HANDLES: usize = MOST_ENTRIES as usize + LEAVES;
 
-// Whether each handle is reachable, and the row of each handle. The library has no heap: there is room for every handle.
+// Whether each handle is reachable, and the row of each handle. The library has no heap: there is room for every handle. Two arrays and no array of
+// options: the pass down is the definition's over a list of flags, and rows are numbered once all marks stand. The pass stands again in checking for a
+// table's entries: the definitions of the two are apart, and a trait would state both as laws.
 #[derive(Clone, Copy)]
 pub struct Reach {
     pub marks: [bool; HANDLES],

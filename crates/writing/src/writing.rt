@@ -52,7 +52,7 @@ pub fn write_back_within(
     requires { FitLimits limits }
     ensures { outcome result out.new ≡ back.write_back limits s.now handle out.old }
 {
-    // Each operation makes these two tests: a shared one would give a fault of its own, and converting it is as long as the tests.
+    // Each operation makes these two tests itself: a shared one would be given its two faults, and what it says of the store taken apart again here.
     if !is_sound(limits, s) {
         return Err(WriteFault::NotSound);
     }

@@ -15,11 +15,11 @@ room-requires c = search (rules, list_within)
 pub entries_start-requires : goal.entries_start-requires
 entries_start-requires c = search (rules, heading_whole)
 
-pub body_sound-requires : goal.body_sound-requires
-body_sound-requires c = search (rules, room_fits)
+pub invariant_of-entries : goal.invariant_of-entries
+invariant_of-entries c = search (rules, room_fits)
 
-pub returns-then-entries-room : goal.returns-then-entries-room
-returns-then-entries-room c = search (rules, by_body)
+pub returns-then-room-count-clause-sound : goal.returns-then-room-count-clause-sound
+returns-then-room-count-clause-sound c = search (rules, room_fails)
 
-pub returns-else-entries-room : goal.returns-else-entries-room
-returns-else-entries-room c = search (rules, room_fails)
+pub returns-clause-sound : goal.returns-clause-sound
+returns-clause-sound c = search (rules, by_body)

@@ -1,5 +1,5 @@
 -- `list_fault` meets its contract: what is left of the list has the same first fault as the whole.
-use Prim.Native.Nat.{◌≤◌, ◌-◌, ◌/◌}
+use Prim.Native.Nat.{◌-◌, ◌/◌}
 use mathlib.Core.Path.{◌≡◌}
 use lib.ListN.{length}
 use Rattle.terms.specs.Order.{order_of}

@@ -1,10 +1,7 @@
 -- `verdict_within` meets its contract: its tests are the definition's, in its order.
 use borrow.Author.Rules.{rules}
-use Rattle.verdicts.proofs.VerdictWays.{has_heading, can_start}
+use Rattle.verdicts.proofs.VerdictWays.{can_start}
 use Rattle.verdicts.proofs.deciding.verdict_within.Goals as goal
-
-pub has_handle-requires : goal.has_handle-requires
-has_handle-requires c = search (rules, has_heading)
 
 pub leaves_from-requires : goal.leaves_from-requires
 leaves_from-requires c = search (rules, can_start)
