@@ -18,12 +18,6 @@ use Rattle.store.proofs.EntryAdded.{length_added, agree_added, used_added, entry
 use Rattle.store.proofs.StoreWords.{questions_agree, entry_agrees}
 
 module _ {limits : Limits} {s : List ℕ} {x : Index} (can : CanPlace limits s x) where
-  pub heading_in : heading_length ≤ length s
-  heading_in = omega (arith, can.index.ready.fit.within)
-
-  pub list_in : entries_start s ≤ length s
-  list_in = omega (arith, can.index.ready.fit.within)
-
   module _ {u r : ℕ} (eu : u ≡ used s) (er : r ≡ room limits s) (more : u < r) where
     pub can_append : CanAppend s
     can_append = record { next_in = omega arith; few = omega (arith, can.fit.entries_fit) }
