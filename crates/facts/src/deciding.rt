@@ -25,7 +25,7 @@ fn settles(join: Join, places: &Places, q: Equation) -> bool
     place_of(places, q.left).joined(join) == place_of(places, q.right).joined(join)
 }
 
-// Whether a join settles no question answered no.
+// Whether a join settles no question answered no. The record is lent: by value it would be copied for each question that is asked.
 fn join_is_free(f: &Facts, join: Join) -> bool
     requires { need.CanJoin f.now join.by }
     ensures { result ≡ state.free (state.planned (spec.state f.now) (Plan.Join join)) }

@@ -4,14 +4,13 @@ use Prim.Native.Nat.{ℕ, ◌+◌, ◌≤◌, ◌<◌}
 use mathlib.Core.Path.{◌≡◌, refl}
 use mathlib.Core.List.{List}
 use native.Mathlib.Omega.{arith}
-use lib.ListN.{length}
 use Rattle.index.specs.declared.chains.Index.{Index}
 use Rattle.index.specs.Needs.{hash_of, Holds}
 use Rattle.index.proofs.StoreIndex.{searchable_added}
 use Rattle.terms.specs.declared.limits.Limits.{Limits}
 use Rattle.store.specs.declared.entries.Entry.{Entry}
 use Rattle.store.specs.Entries.{find_entry, with_entry}
-use Rattle.store.specs.Layout.{heading_length, used, entries_start, entry, room}
+use Rattle.store.specs.Layout.{used, entries_start, entry, room}
 use Rattle.store.specs.Needs.{CanAppend}
 use Rattle.walking.specs.Needs.{InIndex, CanPlace}
 use Rattle.store.proofs.EntryAdded.{length_added, agree_added, used_added, entry_added}
