@@ -73,9 +73,9 @@ module _ (order : ListOrder) (limits : Limits) (n : ℕ) (raw s : List ℕ) {c :
     list_is =
         sym (words_of_equations q.count (words_of q) (omega (arith, length-take (2 * q.count) q.words, found.1.fit))) ∙ ap raw_equations.words_of found.1.are
 
-    pub opens_resulting : {k : ℕ} → k ≡ order_number order → {o : Outcome RawOpened} → o ≡ open_resulting limits n k (words_of q) s → o ≡ open_collected order limits n raw s
+    pub opens_resulting : {o : Outcome RawOpened} → o ≡ open_resulting limits n (order_number order) (words_of q) s → o ≡ open_collected order limits n raw s
     unfolding open_collected
-    opens_resulting ek eo = rw found.0 (eo ∙ λ j. open_resulting limits n (ek j) (list_is j) s)
+    opens_resulting eo = rw found.0 (eo ∙ ap (λ (l : List ℕ). open_resulting limits n (order_number order) l s) list_is)
 
 -- ---- an even raw list of few equations
 module _ (order : ListOrder) (limits : Limits) (n : ℕ) (raw s : List ℕ) where

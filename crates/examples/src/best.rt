@@ -40,7 +40,8 @@ fn lesser(n: u32, best: Option<Sheet>, sheet: Sheet) -> Option<Sheet>
     }
 }
 
-// Whether no sheet that fits the facts is before the best so far.
+// Whether no sheet that fits the facts is before the best so far. No `is_some_and`: the proof would have what the closure says in place of what the two
+// calls say, and the check does not find it.
 fn is_beaten(n: u32, best: Option<Sheet>, f: Facts) -> bool
     requires { HasLeast f n }
     ensures { result ≡ needs.beaten n (facts.state f) (needs.best_of n best) }

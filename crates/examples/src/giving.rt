@@ -18,8 +18,8 @@ fn write_sheet(sheet: Sheet, out: &mut [u16])
     requires { CanWriteSheet sheet out.old }
     ensures { out.new ≡ sheet_of (length out.old) sheet }
 {
-    for i in 0..out.len() {
-        out[i] = sheet.counts[i + 1] as u16;
+    for (i, place) in out.iter_mut().enumerate() {
+        *place = sheet.counts[i + 1] as u16;
     }
 }
 

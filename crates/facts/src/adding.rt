@@ -7,27 +7,15 @@ ghost use Rattle.terms.specs.Limits.{most_count};
 
 use crate::fact::Fact;
 use crate::record::Facts;
-use crate::working::with_fact;
+use crate::working::added;
 use terms::Equation;
 
-// Adds a fact, whichever its answer: the record is copied out, worked on by value, and stored back whole.
+// Adds a fact, whichever its answer: the record is worked on by value and stored back whole.
 pub fn add(f: &mut Facts, x: Fact)
     requires { need.CanAddFact f.old x }
     ensures { spec.state f.new ≡ state.work_in (spec.state f.old) x.question x.answer }
 {
-    let old = *f;
-    let new = with_fact(old, x);
-    *f = new;
-}
-
-// The facts with one more, for callers that pass records by value: a record of its own is lent.
-pub fn added(f: Facts, x: Fact) -> Facts
-    requires { need.CanAddFact f x }
-    ensures { spec.state result ≡ state.work_in (spec.state f) x.question x.answer }
-{
-    let mut g = f;
-    add(&mut g, x);
-    g
+    *f = added(*f, x);
 }
 
 // The facts with a question answered no.

@@ -6,10 +6,11 @@ use crate::deciding::decision_of;
 use crate::decision::Decision;
 use crate::fact::Fact;
 use crate::record::Facts;
-use crate::working::with_fact;
+use crate::working::added;
 use terms::Equation;
 
-// What the facts say of a question: where it is open, with the facts that have it answered yes.
+// What the facts say of a question: where it is open, with the facts that have it answered yes. Not one generic enum with Decision: the definitions
+// match on both by name, and the parameter would stand in each of them.
 #[derive(Clone, Copy)]
 pub enum Asked {
     Always,
@@ -17,6 +18,7 @@ pub enum Asked {
     Open(Facts),
 }
 
+// What is asked for, `Askable`, is of a record and a question together, so it is an invariant of neither.
 // The question is decided first, and a yes is worked in only where it is open.
 pub fn ask(f: Facts, q: Equation) -> Asked
     requires { need.Askable f q }
@@ -25,7 +27,7 @@ pub fn ask(f: Facts, q: Equation) -> Asked
     match decision_of(f, q) {
         Decision::Always => Asked::Always,
         Decision::Never => Asked::Never,
-        Decision::Open => Asked::Open(with_fact(
+        Decision::Open => Asked::Open(added(
             f,
             Fact {
                 question: q,

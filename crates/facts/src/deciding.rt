@@ -25,10 +25,10 @@ fn settles(join: Join, places: &Places, q: Equation) -> bool
     place_of(places, q.left).joined(join) == place_of(places, q.right).joined(join)
 }
 
-// Whether a join settles no question answered no.
-pub fn join_is_free(f: Facts, join: Join) -> bool
-    requires { need.CanJoin f join.by }
-    ensures { result ≡ state.free (state.planned (spec.state f) (Plan.Join join)) }
+// Whether a join settles no question answered no. The record is lent: by value it would be copied for each question that is asked.
+fn join_is_free(f: &Facts, join: Join) -> bool
+    requires { need.CanJoin f.now join.by }
+    ensures { result ≡ state.free (state.planned (spec.state f.now) (Plan.Join join)) }
 {
     for pair in f.noes.listed() {
         if settles(join, &f.places, pair.question()) {
@@ -47,7 +47,7 @@ pub fn decision_of(f: Facts, q: Equation) -> Decision
         Plan::Keep => Decision::Always,
         Plan::Clash => Decision::Never,
         Plan::Join(join) => {
-            if join_is_free(f, join) {
+            if join_is_free(&f, join) {
                 return Decision::Open;
             }
             Decision::Never

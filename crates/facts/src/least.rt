@@ -37,15 +37,14 @@ fn fix_field(f: &mut Facts, x: Field) -> u32
     ensures { need.FixedAt f.old x.0 result f.new }
 {
     let old = *f;
-    let mut count = offset_of(old, x);
-    // A search upwards has no end to give a range; that it ends is proved by the least count.
-    loop {
+    // The least count is below the range's end, so the search does not get there.
+    for count in offset_of(old, x).. {
         if let Some(g) = yes(old, has_count(x, count)) {
             *f = g;
             return count;
         }
-        count += 1;
     }
+    unreachable!()
 }
 
 // The least sheet of the fields 1 to n that fits the facts: each field in turn has the least count that it can have beside those before it.

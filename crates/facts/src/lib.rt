@@ -12,7 +12,7 @@ mod place;
 mod record;
 mod working;
 
-pub use adding::{add, added, no};
+pub use adding::{add, no};
 pub use asking::{Asked, ask, yes};
 pub use deciding::decision_of;
 pub use decision::{Decision, Join, Plan, plan_yes};
@@ -21,3 +21,4 @@ pub use least::{Sheet, least_sheet};
 pub use noes::{Noes, WordPair};
 pub use place::Place;
 pub use record::{FIELDS, Facts, no_facts, offset_of};
+pub use working::added;

@@ -42,8 +42,8 @@ fn with_no(mut f: Facts, q: Equation) -> Facts
     f
 }
 
-// The facts with an answer worked in, by value: what `add` does to a record that is lent to it.
-pub fn with_fact(f: Facts, x: Fact) -> Facts
+// The facts with one more, whichever its answer.
+pub fn added(f: Facts, x: Fact) -> Facts
     requires { need.CanAddFact f x }
     ensures { spec.state result ≡ state.work_in (spec.state f) x.question x.answer }
 {

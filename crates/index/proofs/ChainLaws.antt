@@ -1,4 +1,5 @@
--- The index over a plain function f from numbers to buckets: it starts empty, a number is put into it, and a chain is walked.
+-- The index over a plain function f from numbers to buckets: it starts empty, a number is put into it, and a chain is walked. The check finds the proofs
+-- that cited `chains_put` and `walk_step` by itself now; those two, which docs/CHANGES.md names, and what they go by stay as they are.
 use Prim.Native.Nat.{ℕ, ◌+◌, ◌≤◌, ◌<◌}
 use mathlib.Core.Path.{◌≡◌, refl, ◌∙◌, ap, sym}
 use mathlib.Core.Bool.{Bool, true, false, false≢true}

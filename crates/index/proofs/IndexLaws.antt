@@ -11,7 +11,7 @@ use Rattle.std.proofs.Common.{Option, Some, None, cond}
 use Rattle.std.specs.Option.{is_some}
 use Rattle.index.specs.declared.chains.Index.{Index}
 use Rattle.index.specs.Entries.{capacity, buckets, none_equal, EntryLaws}
-use Rattle.index.specs.Needs.{EntriesFit, Holds, Empty, HasRoom, Searchable, found}
+use Rattle.index.specs.Needs.{EntriesFit, Holds, Empty, Searchable, found}
 use Rattle.index.proofs.ChainLaws.{chains_none, Walk}
 use Rattle.store.specs.Entries.{first}
 use Rattle.store.specs.Needs.{EntryFrom}
@@ -114,9 +114,6 @@ module _ {A : Type 0} {fits : List ℕ → ℕ → ℕ → Type 0} {entry : List
   module _ {i : ℕ} {x : Index} (l : Loading (fits s start) (entry s) bucket same i x) (h : i < entries) {e : A} (ee : e ≡ entry s i) where
     of_entry : {d : A} {b : Bool} → same d e ≡ b → same d (entry s i) ≡ b
     of_entry {d} {b} t = subst (λ (y : A). same d y ≡ b) ee t
-
-    pub has_room : HasRoom x
-    has_room = record { few = omega (arith, l.counted, laws.few s start entries f) }
 
     pub loading_more : {o : Option ℕ} {x' : Index} → o ≡ found (entry s) same e x.count → false ≡ is_some o → x'.count ≡ x.count + 1
         → ((g : ℕ → ℕ) → g x.count ≡ bucket e → Holds g x → Holds g x') → Loading (fits s start) (entry s) bucket same (i + 1) x'

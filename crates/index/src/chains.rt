@@ -11,7 +11,8 @@ const CAPACITY: usize = MOST_ENTRIES as usize;
 pub const BUCKETS: usize = CAPACITY;
 
 // How many entries it holds, for each bucket the last entry in it, and for each entry the one before it in its bucket: one more
-// than the entry's number, and 0 where there is none.
+// than the entry's number, and 0 where there is none. No Option: at two bytes more a link the index would take 16,384 bytes more of a stack of which
+// 48,552 of 65,536 are used.
 #[derive(Drop)]
 pub struct Index {
     count: u16,
@@ -59,7 +60,8 @@ impl Index {
         self.lasts[b] = self.count;
     }
 
-    // Whether no two of the first so many entries are equal; if so, they go into the index, which is lent empty.
+    // Whether no two of the first so many entries are equal; if so, they go into the index, which is lent empty. Lent and not an Option of an index: it is
+    // 16,384 bytes, and a sound store's entries are known to differ.
     pub fn load<E: Indexed>(&mut self, words: &[u32], start: usize, entries: usize) -> bool
         requires fits { E.fits words.now start entries }
         requires empty { Empty self.old }

@@ -1,4 +1,5 @@
-// The entries of a store as an index holds them.
+// The entries of a store as an index holds them. Each kind of entry has its own sum: a shared one over a list of words and factors needs a bound of the
+// sum for every length.
 ghost use Rattle.index.specs.Needs.{EntriesFit, hash_of};
 ghost use Rattle.index.specs.StoreEntry.{store_entry_laws};
 ghost use Rattle.store.specs.Layout as layout;

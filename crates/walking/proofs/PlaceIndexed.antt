@@ -4,26 +4,19 @@ use Prim.Native.Nat.{ℕ, ◌+◌, ◌≤◌, ◌<◌}
 use mathlib.Core.Path.{◌≡◌, refl}
 use mathlib.Core.List.{List}
 use native.Mathlib.Omega.{arith}
-use lib.ListN.{length}
 use Rattle.index.specs.declared.chains.Index.{Index}
 use Rattle.index.specs.Needs.{hash_of, Holds}
 use Rattle.index.proofs.StoreIndex.{searchable_added}
 use Rattle.terms.specs.declared.limits.Limits.{Limits}
 use Rattle.store.specs.declared.entries.Entry.{Entry}
 use Rattle.store.specs.Entries.{find_entry, with_entry}
-use Rattle.store.specs.Layout.{heading_length, used, entries_start, entry, room}
+use Rattle.store.specs.Layout.{used, entries_start, entry, room}
 use Rattle.store.specs.Needs.{CanAppend}
 use Rattle.walking.specs.Needs.{InIndex, CanPlace}
 use Rattle.store.proofs.EntryAdded.{length_added, agree_added, used_added, entry_added}
 use Rattle.store.proofs.StoreWords.{questions_agree, entry_agrees}
 
 module _ {limits : Limits} {s : List ℕ} {x : Index} (can : CanPlace limits s x) where
-  pub heading_in : heading_length ≤ length s
-  heading_in = omega (arith, can.index.ready.fit.within)
-
-  pub list_in : entries_start s ≤ length s
-  list_in = omega (arith, can.index.ready.fit.within)
-
   module _ {u r : ℕ} (eu : u ≡ used s) (er : r ≡ room limits s) (more : u < r) where
     pub can_append : CanAppend s
     can_append = record { next_in = omega arith; few = omega (arith, can.fit.entries_fit) }

@@ -8,7 +8,8 @@ use crate::truths::leaf_value;
 use facts::{Decision, Facts, decision_of};
 use store::{LEAVES, entry_of, question_at, wide};
 
-// The value of a handle: its entries are followed while their questions are decided.
+// The value of a handle: its entries are followed while their questions are decided. The way down follows handles, so there is no index to go over.
+// A decision can be open and a truth can't, so a shared way down with reading would take a closure and its law in place of either loop's invariant.
 pub fn handle_value(s: &[u32], handle: u32, f: &Facts) -> Decision
     requires { CanFollow s.now handle f.now }
     ensures { result ≡ spec.handle_value s.now handle (facts.state f.now) }

@@ -31,6 +31,7 @@ fn leaf(d: Decision) -> u32
 }
 
 // The diagram of the goal's subject under the facts, over the questions from the k-th on, of which so many are left.
+// That number is the measure that ends the recursion.
 pub fn walk(
     goal: &Goal,
     store: &mut [u32],

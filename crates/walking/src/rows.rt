@@ -43,7 +43,7 @@ fn row_value(table: &[u32], i: usize, before: &[Decision], f: &Facts) -> Decisio
     }
 }
 
-// The value of a table: that of its last row.
+// The value of a table: that of its last row. The library has no heap: there is a place for every row.
 pub fn table_value(table: &[u32], f: &Facts) -> Decision
     requires { AsksTable table.now f.now }
     ensures { result ≡ spec.table_value table.now (facts.state f.now) }

@@ -13,4 +13,4 @@ pub returns : goal.returns
 returns c =
     let a = c.args in
     taken_in a.known a.limits a.n a.raw.now a.store.now c.if-raw-eq1.false c.if-raw-gt-MOST_EQUATIONS.false
-    (opens_resulting a.known a.limits a.n a.raw.now a.store.now (rw c.terms_within.ensures at c.collect.ensures) c.in_ok-questions.was c.requires c.open_resulting.ensures)
+    (opens_resulting a.known a.limits a.n a.raw.now a.store.now (rw c.terms_within.ensures at c.collect.ensures) c.in_ok-questions.was c.open_resulting.ensures)

@@ -3,5 +3,5 @@ use borrow.Author.Rules.{rules}
 use Rattle.facts.proofs.WorkedRecord.{can_yes}
 use Rattle.facts.proofs.asking.ask.Goals as goal
 
-pub with_fact-requires : goal.with_fact-requires
-with_fact-requires c = search (rules, can_yes)
+pub added-requires : goal.added-requires
+added-requires c = search (rules, can_yes)

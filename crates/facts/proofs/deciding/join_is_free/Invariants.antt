@@ -5,4 +5,4 @@ use Rattle.facts.proofs.NoesWays.{PassedNoes}
 use Rattle.facts.proofs.deciding.join_is_free.Given as goal
 
 abbrev pub invariant-loop-pair : goal.invariant-loop-pair
-invariant-loop-pair l = PassedNoes l.fn.f.noes.pairs (joined (classes_in l.fn.f.places) l.join) l.pair-index
+invariant-loop-pair l = PassedNoes l.f.noes.pairs (joined (classes_in l.f.places) l.join) l.pair-index
