@@ -19,16 +19,17 @@ pub fn add(f: &mut Facts, x: Fact)
 }
 
 // The facts with a question answered no.
-pub fn no(f: Facts, q: Equation) -> Facts
+pub fn no(mut f: Facts, q: Equation) -> Facts
     requires small { spec.Small most_count q }
     requires noes_lt_most_noes { f.noes.count < spec.most_noes }
     ensures { spec.state result ≡ state.no_to (spec.state f) q }
 {
-    added(
-        f,
+    add(
+        &mut f,
         Fact {
             question: q,
             answer: false,
         },
-    )
+    );
+    f
 }

@@ -2,11 +2,11 @@
 ghost use Rattle.facts.specs.Needs as need;
 ghost use Rattle.facts.specs.Record as spec;
 
+use crate::adding::add;
 use crate::deciding::decision_of;
 use crate::decision::Decision;
 use crate::fact::Fact;
 use crate::record::Facts;
-use crate::working::added;
 use terms::Equation;
 
 // What the facts say of a question: where it is open, with the facts that have it answered yes. Not one generic enum with Decision: the definitions
@@ -20,20 +20,23 @@ pub enum Asked {
 
 // What is asked for, `Askable`, is of a record and a question together, so it is an invariant of neither.
 // The question is decided first, and a yes is worked in only where it is open.
-pub fn ask(f: Facts, q: Equation) -> Asked
+pub fn ask(mut f: Facts, q: Equation) -> Asked
     requires { need.Askable f q }
     ensures { spec.AskedOf f q result }
 {
     match decision_of(f, q) {
         Decision::Always => Asked::Always,
         Decision::Never => Asked::Never,
-        Decision::Open => Asked::Open(added(
-            f,
-            Fact {
-                question: q,
-                answer: true,
-            },
-        )),
+        Decision::Open => {
+            add(
+                &mut f,
+                Fact {
+                    question: q,
+                    answer: true,
+                },
+            );
+            Asked::Open(f)
+        }
     }
 }
 

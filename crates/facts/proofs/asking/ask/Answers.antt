@@ -3,5 +3,5 @@ use borrow.Author.Rules.{rules}
 use Rattle.facts.proofs.WorkedRecord.{can_yes}
 use Rattle.facts.proofs.asking.ask.Goals as goal
 
-pub added-requires : goal.added-requires
-added-requires c = search (rules, can_yes)
+pub add-requires : goal.add-requires
+add-requires c = search (rules, can_yes)
