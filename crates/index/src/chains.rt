@@ -11,8 +11,8 @@ const CAPACITY: usize = MOST_ENTRIES as usize;
 pub const BUCKETS: usize = CAPACITY;
 
 // How many entries it holds, for each bucket the last entry in it, and for each entry the one before it in its bucket: one more
-// than the entry's number, and 0 where there is none. No Option: at two bytes more a link the index would take 16,384 bytes more of a stack of which
-// 48,552 of 65,536 are used.
+// than the entry's number, and 0 where there is none. No Option: at two bytes more a link the index would take 16,384 bytes more, and build uses over
+// 45,000 of the 65,536 bytes of stack already.
 #[derive(Drop)]
 pub struct Index {
     count: u16,
