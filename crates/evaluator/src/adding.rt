@@ -20,5 +20,6 @@ pub fn expect_added(
         copy(store.0, words);
         return Err(Refusal::NoRoom);
     }
-    Ok(handle.unwrap_or(0))
+    // A grid has sheets, so there is a handle; what stands for none is no handle.
+    Ok(handle.unwrap_or(u32::MAX))
 }

@@ -23,7 +23,10 @@ pub struct Equation {
 }
 
 impl From<[u32; 2]> for Equation {
-    fn from([left, right]: [u32; 2]) -> Equation {
+    fn from(words: [u32; 2]) -> Equation
+        ensures { words ≡ result.left ∷ result.right ∷ [] }
+    {
+        let [left, right] = words;
         Equation { left, right }
     }
 }

@@ -37,7 +37,9 @@ pub struct Words<const N: usize> {
 
 impl<const N: usize> Words<N> {
     // No words, and room full of zeros.
-    pub fn new() -> Words<N> {
+    pub fn new() -> Words<N>
+        ensures { result.length ≡ 0 }
+    {
         Words::filled(0, 0)
     }
 
@@ -52,7 +54,8 @@ impl<const N: usize> Words<N> {
     }
 
     pub fn len(&self) -> usize
-        ensures { result ≡ self.now.length }
+        ensures value { result ≡ self.now.length }
+        ensures within { result ≤ N }
     {
         self.length
     }
@@ -102,9 +105,15 @@ impl<const N: usize> Words<N> {
         }
     }
 
-    pub fn extend_from_slice(&mut self, words: &[u32]) {
-        for word in words {
-            self.push(*word);
+    // These words more, if there is room for all of them.
+    pub fn extend_from_slice(&mut self, words: &[u32])
+        ensures { (self.old.length + length words.now ≤ N) → self.new.length ≡ self.old.length + length words.now }
+    {
+        let start = self.length;
+        let end = start.saturating_add(words.len());
+        if let Some(room) = self.array.get_mut(start..end) {
+            room.copy_from_slice(words);
+            self.length = end;
         }
     }
 }
