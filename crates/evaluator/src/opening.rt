@@ -1,4 +1,6 @@
 // What opening must answer, and the words that it must leave.
+ghost use Rattle.std.specs.Prelude.{◌-◌, ◌≤◌, length};
+
 use crate::equations::{Equation, Equations};
 use crate::layout::{HEADING, Store};
 use crate::limits::Limits;
@@ -77,7 +79,9 @@ impl<'a> Opening<'a> {
 
 impl<'a> Store<'a> {
     // What a store was opened with, by its own words.
-    pub fn opening(self) -> Opening<'a> {
+    pub fn opening(self) -> Opening<'a>
+        ensures { length result.list.now ≤ length self.entry.0.now - 4 }
+    {
         Opening {
             n: self.fields(),
             order: self.order(),

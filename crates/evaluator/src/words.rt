@@ -1,5 +1,5 @@
 // Words and other values at places that may not be there.
-ghost use Rattle.std.specs.Prelude.{◌≡◌, ◌+◌, ◌<◌, ◌≤◌, length};
+ghost use Rattle.std.specs.Prelude.{◌≡◌, ◌+◌, ◌<◌, ◌≤◌, length, take};
 
 // The value at a place, zero or false beyond the end.
 pub fn at<T: Copy + Default>(s: &[T], place: usize) -> T {
@@ -15,7 +15,8 @@ pub fn put<T: Drop>(s: &mut [T], place: usize, value: T) {
 
 // The first values, all of them if they are not so many.
 pub fn first<T>(s: &[T], count: usize) -> &[T]
-    ensures { length result.now ≤ length s.now }
+    ensures values { result.now ≡ take count s.now }
+    ensures within { length result.now ≤ length s.now }
 {
     s.get(..count).unwrap_or(s)
 }
