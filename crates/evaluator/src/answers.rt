@@ -1,4 +1,5 @@
-// What a call answers: a number, which is 0 if it accepts, and a result.
+// What a call answers: a number, which is 0 if it accepts, and a result. A number beside a result, as C gets an answer, only to be compared with one; the
+// evaluator itself gives a Result.
 ghost use Rattle.std.specs.Prelude.{◌≡◌, ◌<◌, IfOk, OnErr, OnOk};
 
 use crate::refusals::Refusal;

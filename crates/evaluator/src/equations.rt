@@ -32,6 +32,7 @@ impl From<[u32; 2]> for Equation {
 }
 
 impl Equation {
+    // A method, since with From each caller would have to name the type of the array.
     pub fn words(self) -> [u32; 2]
         ensures { result ≡ self.left ∷ self.right ∷ [] }
     {
@@ -68,7 +69,7 @@ impl Equation {
     }
 }
 
-// The equations of a list, by its words.
+// The equations of a list, by its words. A type of its own, since no function can give an impl Iterator.
 #[derive(Clone, Copy)]
 pub struct Equations<'a>(pub &'a [u32]);
 

@@ -8,7 +8,8 @@ use crate::orders::Order;
 use crate::refusals::Refusal;
 use crate::words::copy;
 
-// What a store is opened with: its number of fields, its order, and the words of its list.
+// What a store is opened with: its number of fields, its order, and the words of its list. The order's word, since words that are no order are opened with
+// too.
 #[derive(Clone, Copy)]
 pub struct Opening<'a> {
     pub n: u32,

@@ -42,6 +42,7 @@ impl TryFrom<[u32; 4]> for Row {
 }
 
 impl Row {
+    // A method, since with From each caller would have to name the type of the array.
     pub fn words(self) -> [u32; 4]
         ensures words { result ≡ row_words self }
         ensures kind { slice_index result 0 < 6 }
@@ -95,6 +96,7 @@ fn is_settled(equation: Equation) -> bool {
         || is_below_zero(equation.turned_round())
 }
 
+// Limits and store are two values, since meanings and handles need no limits.
 fn check_equation(limits: Limits, store: Store<'_>, equation: Equation) -> Result<(), Refusal> {
     if equation.is_beyond(limits, store.fields()) {
         return Err(Refusal::RuleTerm);

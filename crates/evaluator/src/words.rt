@@ -1,8 +1,10 @@
 // Words and other values at places that may not be there.
-ghost use Rattle.std.specs.Prelude.{◌≡◌, ◌+◌, ◌<◌, ◌≤◌, length, take};
+ghost use Rattle.std.specs.Prelude.{◌≡◌, ◌+◌, ◌<◌, ◌≤◌, length, take, slice_get, Some};
 
 // The value at a place, zero or false beyond the end.
-pub fn at<T: Copy + Default>(s: &[T], place: usize) -> T {
+pub fn at<T: Copy + Default>(s: &[T], place: usize) -> T
+    ensures { (place < length s.now) → slice_get s.now place ≡ Some result }
+{
     s.get(place).copied().unwrap_or_default()
 }
 
@@ -21,14 +23,16 @@ pub fn first<T>(s: &[T], count: usize) -> &[T]
     s.get(..count).unwrap_or(s)
 }
 
-// Writes the words of one slice over another, from its beginning, zeros where it has none.
+// Writes the words of one slice over another, from its beginning, zeros where it has none. Word by word: copy_from_slice asks for equal lengths, so it
+// would take a split and a fill as well.
 pub fn copy(from: &[u32], to: &mut [u32]) {
     for (i, word) in to.iter_mut().enumerate() {
         *word = at(from, i);
     }
 }
 
-// Up to N words, and room behind them.
+// Up to N words, and room behind them. In the value itself: with a Vec each function that makes words would take an allocator and give a Result. The
+// kit's ArrayVec isn't Copy, and shows no room behind its items, which spoiled lists and written rows need.
 #[derive(Clone, Copy)]
 pub struct Words<const N: usize> {
     array: [u32; N],
@@ -58,7 +62,7 @@ impl<const N: usize> Words<N> {
         ensures value { result ≡ self.now.length }
         ensures within { result ≤ N }
     {
-        self.length
+        self.as_slice().len()
     }
 
     pub fn as_slice(&self) -> &[u32]
