@@ -1,4 +1,4 @@
--- "Four words a row: a kind, and three columns, of which those that the kind doesn't use are 0"
+-- a row's four words: its kind, and three columns, of which those that the kind doesn't use are 0
 use Rattle.std.specs.Prelude.{ℕ, List, [], ◌∷◌}
 use Rattle.evaluator.specs.declared.rules.Row.{Row}
 use Rattle.evaluator.specs.declared.rules.Row.TheVariants.{Never, Always, Asks, Not, And, IfThenElse}

@@ -58,7 +58,7 @@ impl Order {
 
     // Where a question stands: left field, the two numbers between, and right steps as the digits of one number. A question's left field is above 0,
     // and so is its place.
-    pub fn place(self, question: Equation) -> u64 {
+    pub(crate) fn place(self, question: Equation) -> u64 {
         let left_field = u64::from(field(question.left));
         let right_steps = u64::from(steps(question.right));
         (left_field * (FIELDS * STEP_COUNTS) + self.middle(question)) * STEP_COUNTS + right_steps

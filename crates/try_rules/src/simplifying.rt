@@ -30,9 +30,8 @@ fn throw_term(chance: &mut Chance) -> u32 {
     throw_steps(chance).saturating_mul(32).saturating_add(field)
 }
 
-// The answer is C's record, whose numbers are what is tested here; From can't be given to types of two other crates.
-
-// The form of the answer: a question beside its gap, right steps minus left steps, and zeros beside all else.
+// The form of the answer: a question beside its gap, right steps minus left steps, and zeros beside all else. The answer is C's record, whose numbers are
+// what is tested here.
 fn is_formed(a: SimplifyAnswer) -> bool {
     if a.number == 0 && a.result == 2 {
         let gap = i64::from(steps(a.right)) - i64::from(steps(a.left));
@@ -42,6 +41,7 @@ fn is_formed(a: SimplifyAnswer) -> bool {
     is_plain && (a.result == 0 || (a.result == 1 && a.number == 0))
 }
 
+// From can't be given to types of two other crates.
 fn question_of(a: SimplifyAnswer) -> Equation {
     Equation {
         left: a.left,
