@@ -20,5 +20,6 @@ pub fn expect_added(
         copy(store.0, words);
         return Err(Refusal::NoRoom);
     }
-    Ok(handle.unwrap_or(0))
+    // Every grid has sheets, so there is a handle. No call answers u32::MAX, so it would differ.
+    Ok(handle.unwrap_or(u32::MAX))
 }

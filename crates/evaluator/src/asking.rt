@@ -2,16 +2,16 @@
 use crate::grid::Sheet;
 use crate::layout::Store;
 use crate::refusals::Refusal;
+use crate::verdicts::Verdict;
 
-// 0 never, 1 always, 2 sometimes.
-pub fn expect_verdict(store: Store<'_>, handle: u32) -> Result<u32, Refusal> {
+pub fn expect_verdict(store: Store<'_>, handle: u32) -> Result<Verdict, Refusal> {
     store.check_handle(handle)?;
     if store.first_sheet(handle, true).is_none() {
-        return Ok(0);
+        return Ok(Verdict::Never);
     }
     Ok(match store.first_sheet(handle, false) {
-        None => 1,
-        Some(_) => 2,
+        None => Verdict::Always,
+        Some(_) => Verdict::Sometimes,
     })
 }
 
@@ -24,10 +24,9 @@ fn check_sheet(store: Store<'_>, handle: u32, length: usize) -> Result<(), Refus
     Ok(())
 }
 
-// 0 false, 1 true.
-pub fn expect_read(store: Store<'_>, handle: u32, sheet: &[u16]) -> Result<u32, Refusal> {
+pub fn expect_read(store: Store<'_>, handle: u32, sheet: &[u16]) -> Result<bool, Refusal> {
     check_sheet(store, handle, sheet.len())?;
-    Ok(u32::from(store.truth(handle, sheet)))
+    Ok(store.truth(handle, sheet))
 }
 
 // The least sheet that satisfies a handle, into a slice of so many counts.

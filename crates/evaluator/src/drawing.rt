@@ -9,22 +9,27 @@ use crate::grid::MOST_DRAWN;
 use crate::layout::{Store, USED_PLACE};
 use crate::words::{first, put};
 
-// The leaf of each way to answer the questions of a list, question 1 being the highest digit; none where no sheet answers so.
-type Ways = [Option<bool>; 1 << MOST_DRAWN];
+// How many ways there are to answer the questions of a list.
+const WAYS: usize = 1 << MOST_DRAWN;
 
-// What a sheet answers to the questions, as one number.
-fn way_of(store: Store<'_>, sheet: &[u16]) -> usize {
-    Equations(store.list()).fold(0, |way, question| {
+// The leaf of each way, question 1 being the highest digit; none where no sheet answers so.
+type Ways = [Option<bool>; WAYS];
+
+// What a sheet answers to the questions, as one number; of more questions than diagrams are drawn for, to the last ones.
+fn way_of(store: Store<'_>, sheet: &[u16]) -> usize
+    ensures { result < 256 }
+{
+    let way = Equations(store.list()).fold(0, |way, question| {
         (way << 1) | usize::from(question.holds(sheet))
-    })
+    });
+    way % WAYS
 }
 
 fn ways_of(store: Store<'_>, call: Call<'_>) -> Ways {
-    let mut ways = [None; 1 << MOST_DRAWN];
+    let mut ways = [None; WAYS];
     for number in 0..store.sheets() {
         let sheet = store.sheet(number);
-        let leaf = Some(call.truth(store, &sheet));
-        put(&mut ways, way_of(store, &sheet), leaf);
+        ways[way_of(store, &sheet)] = Some(call.truth(store, &sheet));
     }
     ways
 }

@@ -23,12 +23,16 @@ pub struct Equation {
 }
 
 impl From<[u32; 2]> for Equation {
-    fn from([left, right]: [u32; 2]) -> Equation {
+    fn from(words: [u32; 2]) -> Equation
+        ensures { words ≡ result.left ∷ result.right ∷ [] }
+    {
+        let [left, right] = words;
         Equation { left, right }
     }
 }
 
 impl Equation {
+    // A method, since with From each caller would have to name the type of the array.
     pub fn words(self) -> [u32; 2]
         ensures { result ≡ self.left ∷ self.right ∷ [] }
     {
@@ -65,7 +69,7 @@ impl Equation {
     }
 }
 
-// The equations of a list, by its words.
+// The equations of a list, by its words. A type of its own, since no function can give an impl Iterator.
 #[derive(Clone, Copy)]
 pub struct Equations<'a>(pub &'a [u32]);
 

@@ -8,7 +8,8 @@ use crate::limits::{MOST_FIELDS, MOST_STEPS};
 use crate::refusals::Refusal;
 use crate::words::put;
 
-// A sheet's n counts, and zeros behind them.
+// A sheet's n counts, and zeros behind them. An array for the most fields: sixteen counts are wanted without a store too, and of a store the number of
+// fields stands in the store.
 pub type Sheet = [u16; MOST_FIELDS as usize];
 
 // The sheet of a number for n fields.

@@ -1,4 +1,6 @@
 // The words of a store's heading and list, as documents 01 and 02 lay them out.
+ghost use Rattle.std.specs.Prelude.{◌-◌, ◌≤◌, length};
+
 use crate::equations::Equation;
 use crate::limits::Limits;
 use crate::words::at;
@@ -35,7 +37,9 @@ impl<'a> Store<'a> {
     }
 
     // The words of the list, if it has all of them.
-    pub(crate) fn list(self) -> &'a [u32] {
+    pub(crate) fn list(self) -> &'a [u32]
+        ensures { length result.now ≤ length self.entry.0.now - 4 }
+    {
         let end = HEADING + 2 * self.questions() as usize;
         self.0.get(HEADING..end).unwrap_or(&[])
     }

@@ -20,6 +20,7 @@ mod refusals;
 mod rules;
 mod sound;
 mod truth;
+mod verdicts;
 mod words;
 
 pub use adding::expect_added;
@@ -32,7 +33,9 @@ pub use grid::Sheet;
 pub use layout::{HEADING, ORDER_PLACE, Store, USED_PLACE};
 pub use limits::{Limits, MOST_STEPS, Side};
 pub use opening::{Opening, expect_opened};
+pub use orders::Order;
 pub use raw_lists::{expect_raw_opened, found_in};
 pub use refusals::Refusal;
 pub use rules::{Row, check_table};
+pub use verdicts::Verdict;
 pub use words::{Words, at, copy, first, put};

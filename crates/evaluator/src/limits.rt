@@ -1,4 +1,5 @@
 // What a store may hold: at the institute, and on the deck logger.
+ghost use Rattle.std.specs.Prelude.{◌≤◌};
 
 // The largest numbers of fields, of a term's steps, of questions and of entries.
 #[derive(Clone, Copy)]
@@ -43,7 +44,12 @@ pub enum Side {
 }
 
 impl Side {
-    pub fn limits(self) -> Limits {
+    pub fn limits(self) -> Limits
+        ensures fields { result.fields ≤ 16 }
+        ensures steps { result.steps ≤ 1023 }
+        ensures questions { result.questions ≤ 20 }
+        ensures entries { result.entries ≤ 4096 }
+    {
         match self {
             Side::Institute => Limits::INSTITUTE,
             Side::Logger => Limits::LOGGER,

@@ -1,4 +1,6 @@
 // What opening must answer, and the words that it must leave.
+ghost use Rattle.std.specs.Prelude.{◌-◌, ◌≤◌, length};
+
 use crate::equations::{Equation, Equations};
 use crate::layout::{HEADING, Store};
 use crate::limits::Limits;
@@ -6,7 +8,8 @@ use crate::orders::Order;
 use crate::refusals::Refusal;
 use crate::words::copy;
 
-// What a store is opened with: its number of fields, its order, and the words of its list.
+// What a store is opened with: its number of fields, its order, and the words of its list. The order's word, since words that are no order are opened with
+// too.
 #[derive(Clone, Copy)]
 pub struct Opening<'a> {
     pub n: u32,
@@ -77,7 +80,9 @@ impl<'a> Opening<'a> {
 
 impl<'a> Store<'a> {
     // What a store was opened with, by its own words.
-    pub fn opening(self) -> Opening<'a> {
+    pub fn opening(self) -> Opening<'a>
+        ensures { length result.list.now ≤ length self.entry.0.now - 4 }
+    {
         Opening {
             n: self.fields(),
             order: self.order(),

@@ -1,5 +1,5 @@
 // The orders that a list may be in, and where a question stands in each.
-ghost use Rattle.std.specs.Prelude.{◌<◌, ◌^◌};
+ghost use Rattle.std.specs.Prelude.{◌≡◌, ◌<◌, ◌^◌, IsOk};
 
 use crate::equations::{Equation, field, steps};
 use crate::refusals::Refusal;
@@ -14,11 +14,25 @@ pub enum Order {
 impl TryFrom<u32> for Order {
     type Error = Refusal;
 
-    fn try_from(word: u32) -> Result<Order, Refusal> {
+    fn try_from(word: u32) -> Result<Order, Refusal>
+        ensures { IsOk result → word < 2 }
+    {
         match word {
             0 => Ok(Order::Current),
             1 => Ok(Order::Older),
             _ => Err(Refusal::NoOrder),
+        }
+    }
+}
+
+impl From<Order> for u32 {
+    fn from(order: Order) -> u32
+        ensures current { (order ≡ Order.Current) → result ≡ 0 }
+        ensures older { (order ≡ Order.Older) → result ≡ 1 }
+    {
+        match order {
+            Order::Current => 0,
+            Order::Older => 1,
         }
     }
 }
@@ -44,7 +58,7 @@ impl Order {
 
     // Where a question stands: left field, the two numbers between, and right steps as the digits of one number. A question's left field is above 0,
     // and so is its place.
-    pub fn place(self, question: Equation) -> u64 {
+    pub(crate) fn place(self, question: Equation) -> u64 {
         let left_field = u64::from(field(question.left));
         let right_steps = u64::from(steps(question.right));
         (left_field * (FIELDS * STEP_COUNTS) + self.middle(question)) * STEP_COUNTS + right_steps

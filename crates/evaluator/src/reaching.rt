@@ -7,7 +7,8 @@ use crate::words::{at, put};
 const HANDLES: usize = MOST_ENTRIES as usize + 2;
 
 impl Store<'_> {
-    // The handles that are reached, from the last entry down: a reached entry reaches its two handles, which are smaller.
+    // The handles that are reached, from the last entry down: a reached entry reaches its two handles, which are smaller. An array, since a set would take
+    // an allocator.
     fn reached(self, handle: u32) -> [bool; HANDLES] {
         let mut reached = [false; HANDLES];
         put(&mut reached, handle as usize, true);

@@ -4,31 +4,31 @@ ghost use Rattle.std.specs.Prelude.{◌<◌};
 #[derive(Clone, Copy, Debug, PartialEq, Eq)]
 pub enum Refusal {
     // of opening
-    TooManyFields,
-    HalfQuestion,
-    TooManyQuestions,
-    ListedTerm,
-    NoQuestion,
-    OutOfOrder,
-    TooManyEquations,
-    NoOrder,
-    StoreTooShort,
+    TooManyFields = 11,
+    HalfQuestion = 12,
+    TooManyQuestions = 13,
+    ListedTerm = 14,
+    NoQuestion = 15,
+    OutOfOrder = 16,
+    TooManyEquations = 17,
+    NoOrder = 18,
+    StoreTooShort = 21,
     // of a store, and of a slice for an answer
-    NoStore,
-    WrongLength,
+    NoStore = 22,
+    WrongLength = 23,
     // of a rule table
-    EmptyTable,
-    HalfRow,
-    TooManyRows,
-    BadRow,
-    RuleTerm,
-    NotListed,
+    EmptyTable = 31,
+    HalfRow = 32,
+    TooManyRows = 33,
+    BadRow = 34,
+    RuleTerm = 35,
+    NotListed = 36,
     // of a handle
-    NoHandle,
+    NoHandle = 41,
     // what a call can't do
-    NoRoom,
-    Never,
-    TooLong,
+    NoRoom = 51,
+    Never = 52,
+    TooLong = 53,
 }
 
 impl Refusal {
@@ -36,28 +36,6 @@ impl Refusal {
     pub fn number(self) -> u32
         ensures { 0 < result }
     {
-        match self {
-            Refusal::TooManyFields => 11,
-            Refusal::HalfQuestion => 12,
-            Refusal::TooManyQuestions => 13,
-            Refusal::ListedTerm => 14,
-            Refusal::NoQuestion => 15,
-            Refusal::OutOfOrder => 16,
-            Refusal::TooManyEquations => 17,
-            Refusal::NoOrder => 18,
-            Refusal::StoreTooShort => 21,
-            Refusal::NoStore => 22,
-            Refusal::WrongLength => 23,
-            Refusal::EmptyTable => 31,
-            Refusal::HalfRow => 32,
-            Refusal::TooManyRows => 33,
-            Refusal::BadRow => 34,
-            Refusal::RuleTerm => 35,
-            Refusal::NotListed => 36,
-            Refusal::NoHandle => 41,
-            Refusal::NoRoom => 51,
-            Refusal::Never => 52,
-            Refusal::TooLong => 53,
-        }
+        self as u32
     }
 }

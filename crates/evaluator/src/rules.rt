@@ -1,5 +1,6 @@
 // Rule tables: their rows, and which refusal a table asks for.
-ghost use Rattle.std.specs.Prelude.{◌<◌, slice_index};
+ghost use Rattle.evaluator.specs.Rows.{row_words};
+ghost use Rattle.std.specs.Prelude.{◌≡◌, ◌<◌, slice_index, IfOk, IfErr};
 
 use crate::equations::{Equation, Equations, field, steps};
 use crate::layout::Store;
@@ -24,7 +25,10 @@ pub enum Row {
 impl TryFrom<[u32; 4]> for Row {
     type Error = Refusal;
 
-    fn try_from(words: [u32; 4]) -> Result<Row, Refusal> {
+    fn try_from(words: [u32; 4]) -> Result<Row, Refusal>
+        ensures row { IfOk result (λ row. row_words row ≡ words) }
+        ensures refusal { IfErr result (λ refusal. refusal ≡ Refusal.BadRow) }
+    {
         match words {
             [0, 0, 0, 0] => Ok(Row::Never),
             [1, 0, 0, 0] => Ok(Row::Always),
@@ -38,8 +42,10 @@ impl TryFrom<[u32; 4]> for Row {
 }
 
 impl Row {
+    // A method, since with From each caller would have to name the type of the array.
     pub fn words(self) -> [u32; 4]
-        ensures { slice_index result 0 < 6 }
+        ensures words { result ≡ row_words self }
+        ensures kind { slice_index result 0 < 6 }
     {
         match self {
             Row::Never => [0, 0, 0, 0],
@@ -90,6 +96,7 @@ fn is_settled(equation: Equation) -> bool {
         || is_below_zero(equation.turned_round())
 }
 
+// Limits and store are two values, since meanings and handles need no limits.
 fn check_equation(limits: Limits, store: Store<'_>, equation: Equation) -> Result<(), Refusal> {
     if equation.is_beyond(limits, store.fields()) {
         return Err(Refusal::RuleTerm);

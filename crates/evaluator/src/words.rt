@@ -1,8 +1,10 @@
 // Words and other values at places that may not be there.
-ghost use Rattle.std.specs.Prelude.{◌≡◌, ◌+◌, ◌<◌, ◌≤◌, length};
+ghost use Rattle.std.specs.Prelude.{◌≡◌, ◌+◌, ◌<◌, ◌≤◌, length, take, slice_get, Some};
 
 // The value at a place, zero or false beyond the end.
-pub fn at<T: Copy + Default>(s: &[T], place: usize) -> T {
+pub fn at<T: Copy + Default>(s: &[T], place: usize) -> T
+    ensures { (place < length s.now) → slice_get s.now place ≡ Some result }
+{
     s.get(place).copied().unwrap_or_default()
 }
 
@@ -15,19 +17,22 @@ pub fn put<T: Drop>(s: &mut [T], place: usize, value: T) {
 
 // The first values, all of them if they are not so many.
 pub fn first<T>(s: &[T], count: usize) -> &[T]
-    ensures { length result.now ≤ length s.now }
+    ensures values { result.now ≡ take count s.now }
+    ensures within { length result.now ≤ length s.now }
 {
     s.get(..count).unwrap_or(s)
 }
 
-// Writes the words of one slice over another, from its beginning, zeros where it has none.
+// Writes the words of one slice over another, from its beginning, zeros where it has none. Word by word: copy_from_slice asks for equal lengths, so it
+// would take a split and a fill as well.
 pub fn copy(from: &[u32], to: &mut [u32]) {
     for (i, word) in to.iter_mut().enumerate() {
         *word = at(from, i);
     }
 }
 
-// Up to N words, and room behind them.
+// Up to N words, and room behind them. In the value itself: with a Vec each function that makes words would take an allocator and give a Result. The
+// kit's ArrayVec isn't Copy, and shows no room behind its items, which spoiled lists and written rows need.
 #[derive(Clone, Copy)]
 pub struct Words<const N: usize> {
     array: [u32; N],
@@ -37,7 +42,9 @@ pub struct Words<const N: usize> {
 
 impl<const N: usize> Words<N> {
     // No words, and room full of zeros.
-    pub fn new() -> Words<N> {
+    pub fn new() -> Words<N>
+        ensures { result.length ≡ 0 }
+    {
         Words::filled(0, 0)
     }
 
@@ -52,9 +59,10 @@ impl<const N: usize> Words<N> {
     }
 
     pub fn len(&self) -> usize
-        ensures { result ≡ self.now.length }
+        ensures value { result ≡ self.now.length }
+        ensures within { result ≤ N }
     {
-        self.length
+        self.as_slice().len()
     }
 
     pub fn as_slice(&self) -> &[u32]
@@ -102,9 +110,15 @@ impl<const N: usize> Words<N> {
         }
     }
 
-    pub fn extend_from_slice(&mut self, words: &[u32]) {
-        for word in words {
-            self.push(*word);
+    // These words more, if there is room for all of them.
+    pub fn extend_from_slice(&mut self, words: &[u32])
+        ensures { (self.old.length + length words.now ≤ N) → self.new.length ≡ self.old.length + length words.now }
+    {
+        let start = self.length;
+        let end = start.saturating_add(words.len());
+        if let Some(room) = self.array.get_mut(start..end) {
+            room.copy_from_slice(words);
+            self.length = end;
         }
     }
 }

@@ -16,7 +16,7 @@ pub fn simplify(rt: &impl Print, left: u32, right: u32) -> io::Result<()> {
 
 pub fn verdict(rt: &impl Print, store: &[u32], handle: u32) -> io::Result<()> {
     let found = sheet_verdict(store, handle);
-    let expected = expect_verdict(Store(store), handle);
+    let expected = expect_verdict(Store(store), handle).map(u32::from);
     let remark = Remark::of(Store(store).knows(expected), is_same(found, expected));
     print!(rt; "{}{remark}", Answered(found))
 }
@@ -33,7 +33,7 @@ pub fn read(
         .map(|count| u16::try_from(*count).unwrap_or(u16::MAX))
         .collect(rt.alloc())?;
     let found = sheet_read(store, handle, sheet.as_slice());
-    let expected = expect_read(Store(store), handle, sheet.as_slice());
+    let expected = expect_read(Store(store), handle, sheet.as_slice()).map(u32::from);
     let remark = Remark::of(true, is_same(found, expected));
     print!(rt; "{}{remark}", Answered(found))
 }

@@ -1,27 +1,28 @@
 // The script: a line for each call, with its case, its name and its arguments; lines that lend a store or a slice for an answer; and remarks.
 use crate::arguments::Arguments;
-use crate::asking::{example, read, simplify, verdict, write_back};
+use crate::asking::{example, read, verdict, write_back};
 use crate::changing::make_change;
 use crate::diagrams::diagram;
 use crate::lending::Lent;
+use crate::names::Name;
+use evaluator::at;
 use std::io;
 
 // A call by its name.
 fn call(
     rt: &(impl Print + AllocGlobal),
     lent: &mut Lent,
-    name: &str,
+    name: Name,
     given: &Arguments,
 ) -> io::Result<()> {
     let store = lent.store.as_mut_slice();
     let handle = given.number(0);
-    match name {
-        "simplify" => simplify(rt, handle, given.number(1)),
-        "verdict" => verdict(rt, store, handle),
-        "read" => read(rt, store, handle, given.list()),
-        "example" => example(rt, store, handle, lent.out),
-        "write_back" => write_back(rt, store, handle, lent.out),
-        "diagram" => diagram(rt, given),
+    match name.letter {
+        b'v' => verdict(rt, store, handle),
+        b'r' => read(rt, store, handle, given.list()),
+        b'e' => example(rt, store, handle, lent.out),
+        b'w' => write_back(rt, store, handle, lent.out),
+        b'd' => diagram(rt, given),
         _ => make_change(rt, store, name, given),
     }
 }
@@ -32,21 +33,17 @@ fn run_call(rt: &(impl Print + AllocGlobal), lent: &mut Lent, line: &str) -> io:
     let (name, numbers) = rest.split_once(' ').unwrap_or((rest, ""));
     let given = Arguments::of(rt.alloc(), numbers)?;
     rt.print(line)?;
-    call(rt, lent, name, &given)?;
+    call(rt, lent, Name::of(name), &given)?;
     rt.println("")
 }
 
+// A line by its first letter.
 pub fn run_line(rt: &(impl Print + AllocGlobal), lent: &mut Lent, line: &str) -> io::Result<()> {
-    if line.is_empty() || line.starts_with('#') {
-        return Ok(());
+    match at(line.as_bytes(), 0) {
+        0 | b'#' => {}
+        b's' => lent.lend_store(rt.alloc(), Arguments::of(rt.alloc(), line)?)?,
+        b'o' => lent.lend_out(&Arguments::of(rt.alloc(), line)?),
+        _ => run_call(rt, lent, line)?,
     }
-    if let Some(numbers) = line.strip_prefix("store ") {
-        lent.lend_store(rt.alloc(), Arguments::of(rt.alloc(), numbers)?)?;
-        return Ok(());
-    }
-    if let Some(numbers) = line.strip_prefix("out ") {
-        lent.lend_out(&Arguments::of(rt.alloc(), numbers)?);
-        return Ok(());
-    }
-    run_call(rt, lent, line)
+    Ok(())
 }

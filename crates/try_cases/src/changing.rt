@@ -1,6 +1,8 @@
 // The calls that may change the store: each is made, its answer printed with the store afterwards, and both compared with the evaluator's.
 use crate::arguments::Arguments;
+use crate::asking::simplify;
 use crate::comparing::{Remark, is_same};
+use crate::names::Name;
 use crate::printing::{Answered, Listed};
 use evaluator::{
     Call, Opening, Refusal, Side, Store, expect_added, expect_opened, expect_raw_opened,
@@ -22,27 +24,27 @@ enum Change<'a> {
 }
 
 // A change by the name of the call: opening takes the number of fields, the order and a list, build a table, and the others handles.
-fn change_of<'a>(name: &str, given: &Arguments, words: &'a [u32]) -> Option<Change<'a>> {
+fn change_of<'a>(name: Name, given: &Arguments, words: &'a [u32]) -> Option<Change<'a>> {
     let [a, b, c] = [given.number(0), given.number(1), given.number(2)];
     let opening = Opening {
         n: a,
         order: b,
         list: words,
     };
-    Some(match name {
-        "open" => Change::Open(Side::Institute, opening),
-        "logger_open" => Change::Open(Side::Logger, opening),
-        "open_raw" => Change::OpenRaw(opening),
-        "logger_build" => Change::LoggerBuild(words),
-        "negate" => Change::Add(Call::Negate(a)),
-        "join" => Change::Add(Call::Join(a, b)),
-        "choose" => Change::Add(Call::Choose(a, b, c)),
-        "build" => Change::Add(Call::Build(words)),
+    Some(match (name.letter, name.side) {
+        (b'o', _) if name.raw => Change::OpenRaw(opening),
+        (b'o', side) => Change::Open(side, opening),
+        (b'b', Side::Logger) => Change::LoggerBuild(words),
+        (b'b', Side::Institute) => Change::Add(Call::Build(words)),
+        (b'n', _) => Change::Add(Call::Negate(a)),
+        (b'j', _) => Change::Add(Call::Join(a, b)),
+        (b'c', _) => Change::Add(Call::Choose(a, b, c)),
         _ => return None,
     })
 }
 
 impl Change<'_> {
+    // As in try_rules: the evaluator may call none of these, and a crate for twelve lines is no plainer.
     fn perform(self, store: &mut [u32]) -> Answer {
         match self {
             Change::Open(Side::Institute, o) => sheet_open(o.n, o.order, o.list, store),
@@ -98,18 +100,14 @@ fn make(rt: &(impl Print + AllocGlobal), store: &mut [u32], change: Change<'_>) 
 
 // So many rows always, at most one more than a table may have.
 fn always_rows(alloc: Global, rows: u32) -> Result<Vec<u32>, AllocError> {
-    let mut table = Vec::new(alloc);
-    for _ in 0..rows.min(257) {
-        table.extend_from_slice(&[1, 0, 0, 0])?;
-    }
-    Ok(table)
+    [1, 0, 0, 0].repeat(alloc, rows.min(257) as usize)
 }
 
-// A call by its name, with what stands after the bar, or with so many rows.
+// A call by its name, with what stands after the bar, or with so many rows; simplify where the name is none of these.
 pub fn make_change(
     rt: &(impl Print + AllocGlobal),
     store: &mut [u32],
-    name: &str,
+    name: Name,
     given: &Arguments,
 ) -> io::Result<()> {
     let rows = always_rows(rt.alloc(), given.number(0))?;
@@ -119,6 +117,6 @@ pub fn make_change(
     };
     match change_of(name, given, words) {
         Some(change) => make(rt, store, change),
-        None => Err(io::Error::from(io::ErrorKind::InvalidInput)),
+        None => simplify(rt, given.number(0), given.number(1)),
     }
 }

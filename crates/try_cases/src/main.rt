@@ -9,6 +9,7 @@ mod changing;
 mod comparing;
 mod diagrams;
 mod lending;
+mod names;
 mod printing;
 
 use crate::lending::Lent;

@@ -1,4 +1,7 @@
-// What verdict, example and read answer about a handle, against the evaluator.
+// What verdict, example and read answer about a handle, against the evaluator. Run, store and handle are no struct: the run outlives each store, and some
+// calls take several handles of one store.
+ghost use Rattle.std.specs.Prelude.{◌≤◌};
+
 use crate::calls::throw_handle;
 use crate::chance::Chance;
 use crate::run::Run;
@@ -8,14 +11,14 @@ use sheet::{sheet_example, sheet_read, sheet_verdict};
 pub fn ask_verdict(run: &mut Run, store: Store<'_>, handle: u32) {
     run.expect_answer(
         sheet_verdict(store.0, handle),
-        expect_verdict(store, handle),
+        expect_verdict(store, handle).map(u32::from),
     );
 }
 
 pub fn ask_read(run: &mut Run, store: Store<'_>, handle: u32, sheet: &[u16]) {
     run.expect_answer(
         sheet_read(store.0, handle, sheet),
-        expect_read(store, handle, sheet),
+        expect_read(store, handle, sheet).map(u32::from),
     );
 }
 
@@ -26,16 +29,18 @@ fn compare_example(run: &mut Run, store: Store<'_>, handle: u32, counts: &mut [u
     run.agree(is_example(expected, counts));
 }
 
-// An example in a slice of so many counts, at most four.
-pub fn ask_example(run: &mut Run, store: Store<'_>, handle: u32, length: usize) {
+// An example in a slice of so many counts.
+pub fn ask_example(run: &mut Run, store: Store<'_>, handle: u32, length: usize)
+    requires { length ≤ 4 }
+{
     let mut counts = [7; 4];
-    if let Some(counts) = counts.get_mut(..length) {
-        compare_example(run, store, handle, counts);
-    }
+    compare_example(run, store, handle, &mut counts[..length]);
 }
 
 // The length of a slice for a sheet: n counts, now and then one more or fewer.
-fn throw_length(chance: &mut Chance, store: Store<'_>) -> usize {
+fn throw_length(chance: &mut Chance, store: Store<'_>) -> usize
+    ensures { result ≤ 4 }
+{
     let n = store.fields().min(3) as usize;
     match chance.below(10) {
         0 => n + 1,

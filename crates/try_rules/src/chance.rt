@@ -1,5 +1,5 @@
-// Numbers that look thrown, the same at each run.
-ghost use Rattle.std.specs.Prelude.{◌≤◌, ◌<◌, ◌+◌, ◌^◌};
+// Numbers that look thrown, the same at each run. Functions that only throw take the chance alone, which is lent from the run.
+ghost use Rattle.std.specs.Prelude.{◌≤◌, ◌<◌, ◌^◌};
 
 #[derive(Clone, Copy)]
 pub struct Chance {
@@ -25,11 +25,14 @@ impl Chance {
     }
 
     // One of so many numbers from a least one on.
-    pub fn from_on(&mut self, least: u32, count: u32) -> u32
-        requires { least < 2 ^ 17 }
-        ensures { result < 2 ^ 18 }
-    {
-        least + self.below(count)
+    pub fn from_on(&mut self, least: u32, count: u32) -> u32 {
+        least.saturating_add(self.below(count))
+    }
+
+    // A term of one of so many fields, zero among them, and of up to 2 steps.
+    pub fn low_term(&mut self, fields: u32) -> u32 {
+        let field = self.below(fields);
+        field + 32 * self.below(3)
     }
 
     // Once in so many times.

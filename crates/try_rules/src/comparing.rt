@@ -16,11 +16,18 @@ pub fn perform(store: &mut [u32], call: Call<'_>) -> Answer {
     }
 }
 
-// Build is the logger's only such call.
+// An answer that no call gives.
+const NO_ANSWER: Answer = Answer {
+    number: u32::MAX,
+    result: u32::MAX,
+};
+
+// Build is the logger's only such call, and no other is tried there: it would differ.
 fn perform_on(side: Side, store: &mut [u32], call: Call<'_>) -> Answer {
     match (side, call) {
+        (Side::Institute, _) => perform(store, call),
         (Side::Logger, Call::Build(table)) => sheet_logger_build(store, table),
-        _ => perform(store, call),
+        (Side::Logger, _) => NO_ANSWER,
     }
 }
 

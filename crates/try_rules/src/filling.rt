@@ -1,18 +1,18 @@
 // Hand-made sound stores over the questions n = 0, n = S(0) and so on, n being the last field, with many entries.
 ghost use Rattle.std.specs.Prelude.{◌<◌};
 
-use evaluator::{Entry, HEADING, Opening, Store, USED_PLACE, Words, put, put_entry};
+use evaluator::{Entry, HEADING, Opening, Order, Store, USED_PLACE, Words, put, put_entry};
 
 // What a store is for: its fields, its questions, at least four, and its order.
 #[derive(Clone, Copy)]
 pub struct Form {
     pub n: u32,
     pub questions: u32,
-    pub order: u32,
+    pub order: Order,
 }
 
 // Of one field, with as many questions as the institute takes.
-pub fn widest(order: u32) -> Form {
+pub fn widest(order: Order) -> Form {
     Form {
         n: 1,
         questions: 20,
@@ -37,7 +37,7 @@ fn write_heading(words: &mut [u32], form: Form, used: u32) {
     let list = steps_list(form);
     let opening = Opening {
         n: form.n,
-        order: form.order,
+        order: u32::from(form.order),
         list: list.as_slice(),
     };
     opening.write(words);
@@ -101,7 +101,7 @@ const TREE_WORDS: usize = HEADING + 40 + 3 * 129;
 
 // A store with a tree over the 57 entries of question 18 that follow the first fourteen. The tree's root is handle 128 and reaches 127 entries;
 // handle 129 is over the root and never.
-pub fn tree(order: u32) -> [u32; TREE_WORDS] {
+pub fn tree(order: Order) -> [u32; TREE_WORDS] {
     let mut words = [0; TREE_WORDS];
     write_heading(&mut words, widest(order), 128);
     write_entries(&mut words, 71);

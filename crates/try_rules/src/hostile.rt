@@ -3,7 +3,7 @@ use crate::asking::{ask_example, ask_read, ask_verdict};
 use crate::comparing::perform;
 use crate::filling::FULL_WORDS;
 use crate::run::Run;
-use crate::writing_back::ask_written;
+use crate::writing_back::write_back;
 use evaluator::{Call, Limits, Refusal, Store, Words, first, put};
 use sheet::sheet_logger_build;
 
@@ -15,82 +15,68 @@ const CASE_6: [u32; SIZE] = [
     3, 3, 4, 0, 2, 1, 3, 1, 3, 2, 2, 1, 0, 3, 1, 0, 2, 0, 3, 1, 2, 4, 0, 0, 0, 0,
 ];
 
-// How many ways to break that store there are.
-const WAYS: u32 = 33;
-
-// A word of a way to break it.
+// A place, and the word to write there.
 #[derive(Clone, Copy)]
-struct Change(u32, usize, u32);
+struct Change(usize, u32);
 
-// The changes that break it: the way to break it, in which a change belongs, the place, and the word.
-const CHANGES: [Change; 42] = [
+// The ways to break that store.
+const WAYS: [&[Change]; 33] = [
     // n above 16, and a field above n
-    Change(0, 0, 17),
-    Change(1, 0, 2),
+    &[Change(0, 17)],
+    &[Change(0, 2)],
     // more than 20 questions, and more than there are words for
-    Change(2, 1, 21),
-    Change(3, 1, 12),
+    &[Change(1, 21)],
+    &[Change(1, 12)],
     // numbers of questions whose double, or the start of the entries, is small in 32 bits
-    Change(4, 1, 2147483646),
-    Change(5, 1, 2147483647),
-    Change(6, 1, 2147483648),
-    Change(7, 1, 4294967295),
+    &[Change(1, 2147483646)],
+    &[Change(1, 2147483647)],
+    &[Change(1, 2147483648)],
+    &[Change(1, 4294967295)],
     // orders that are none
-    Change(8, 3, 2),
-    Change(9, 3, 4294967295),
+    &[Change(3, 2)],
+    &[Change(3, 4294967295)],
     // a list that is in document 01's order only, given as one in the older order; and the other way round
-    Change(10, 3, 1),
-    Change(10, 6, 35),
-    Change(11, 6, 3),
-    Change(11, 7, 2),
-    Change(11, 8, 35),
-    Change(11, 9, 1),
+    &[Change(3, 1), Change(6, 35)],
+    &[Change(6, 3), Change(7, 2), Change(8, 35), Change(9, 1)],
     // steps above 1,023, always, never, and steps on both sides
-    Change(12, 5, 32769),
-    Change(13, 5, 2),
-    Change(14, 5, 34),
-    Change(15, 4, 34),
-    Change(15, 5, 33),
+    &[Change(5, 32769)],
+    &[Change(5, 2)],
+    &[Change(5, 34)],
+    &[Change(4, 34), Change(5, 33)],
     // not in order, and one question twice
-    Change(16, 4, 3),
-    Change(16, 6, 2),
-    Change(17, 9, 1),
+    &[Change(4, 3), Change(6, 2)],
+    &[Change(9, 1)],
     // more used than there is room for
-    Change(18, 2, 6),
+    &[Change(2, 6)],
     // used entries whose end, or the next handle, is small in 32 bits
-    Change(19, 2, 1431655762),
-    Change(20, 2, 1431655766),
-    Change(21, 2, 4294967294),
-    Change(22, 2, 4294967295),
+    &[Change(2, 1431655762)],
+    &[Change(2, 1431655766)],
+    &[Change(2, 4294967294)],
+    &[Change(2, 4294967295)],
     // a question number of 0, and one above q
-    Change(23, 10, 0),
-    Change(24, 10, 4),
+    &[Change(10, 0)],
+    &[Change(10, 4)],
     // an entry that names itself, and a later one
-    Change(25, 20, 5),
-    Change(26, 20, 6),
+    &[Change(20, 5)],
+    &[Change(20, 6)],
     // equal handles
-    Change(27, 11, 0),
+    &[Change(11, 0)],
     // a question number that is not below those of the entries it names
-    Change(28, 19, 2),
+    &[Change(19, 2)],
     // an entry twice
-    Change(29, 2, 5),
-    Change(29, 22, 1),
-    Change(29, 23, 2),
-    Change(29, 24, 4),
+    &[Change(2, 5), Change(22, 1), Change(23, 2), Change(24, 4)],
     // words after the used entries: in the room, and after it
-    Change(30, 22, 7),
-    Change(31, 25, 1),
+    &[Change(22, 7)],
+    &[Change(25, 1)],
     // one entry fewer used than there are
-    Change(32, 2, 3),
+    &[Change(2, 3)],
 ];
 
 // The store broken in one way.
-fn broken(way: u32) -> [u32; SIZE] {
+fn broken(way: &[Change]) -> [u32; SIZE] {
     let mut store = CASE_6;
-    for Change(of, place, word) in CHANGES {
-        if of == way {
-            put(&mut store, place, word);
-        }
+    for Change(place, word) in way {
+        put(&mut store, *place, *word);
     }
     store
 }
@@ -121,14 +107,14 @@ pub fn refuse_all(run: &mut Run, words: &[u32]) {
     ask_verdict(run, store, 9);
     ask_read(run, store, 9, &[1]);
     ask_example(run, store, 9, 3);
-    ask_written(run, store, 9, 2);
+    write_back(store, 9, 2).compare(run);
     copied.extend_from_slice(words);
     refuse_calls(run, copied.as_mut_slice());
     run.agree(copied.as_slice() == words);
 }
 
 pub fn try_all_broken(run: &mut Run) {
-    for way in 0..WAYS {
+    for way in WAYS {
         let store = broken(way);
         run.agree(!Store(&store).is_sound(Limits::INSTITUTE));
         refuse_all(run, &store);

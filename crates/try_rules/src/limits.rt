@@ -2,8 +2,8 @@
 use crate::filling::{Form, filled, tree, widest};
 use crate::hostile::refuse_all;
 use crate::run::Run;
-use crate::writing_back::{ask_written, write_back};
-use evaluator::{Limits, Refusal, Store};
+use crate::writing_back::write_back;
+use evaluator::{Limits, Order, Refusal, Store};
 use sheet::{sheet_build, sheet_negate};
 
 // The equation of two terms as a rule.
@@ -51,12 +51,12 @@ fn try_overfull(run: &mut Run, form: Form) {
 // A handle written back into so many words, and the rows that are to come out.
 fn write_expecting(run: &mut Run, store: Store<'_>, handle: u32, length: usize, rows: u32) {
     let written = write_back(store, handle, length);
-    ask_written(run, store, handle, length);
+    written.compare(run);
     run.agree(written.answer.result == rows);
 }
 
 // 127 entries written back are 256 rows; 128 are too many.
-fn try_written(run: &mut Run, order: u32) {
+fn try_written(run: &mut Run, order: Order) {
     let words = tree(order);
     let store = Store(&words);
     run.agree(store.is_sound(Limits::INSTITUTE));
@@ -67,7 +67,7 @@ fn try_written(run: &mut Run, order: u32) {
 
 // In both orders.
 pub fn try_limits(run: &mut Run) {
-    for order in 0..2 {
+    for order in [Order::Current, Order::Older] {
         try_full(run, widest(order));
         try_overfull(run, widest(order));
         try_written(run, order);

@@ -1,8 +1,8 @@
 // Generated lists of questions, in either order.
 use crate::chance::Chance;
-use evaluator::{Equation, Opening, Words, field};
+use evaluator::{Equation, Opening, Order, Words, field};
 
-// A list's number of fields, its order, and its words, as far as there is room.
+// A list's number of fields, its order, and its words, as far as there is room. The order's word, since words that are no order are opened with too.
 #[derive(Clone, Copy)]
 pub struct List<const N: usize> {
     pub n: u32,
@@ -50,13 +50,20 @@ fn older_equation(left: u32, place: u32, stride: u32) -> Equation {
 
 // The c-th in an order of all equations of three fields with gaps of up to 3 strides. Some are no questions, as their right field is not smaller, or
 // they have steps to the left of zero.
-fn equation_at(c: u32, order: u32, stride: u32) -> Equation {
+fn equation_at(c: u32, order: Order, stride: u32) -> Equation {
     let left = c / 21 % 3 + 1;
     let place = c % 21;
-    if order == 0 {
-        equation_of(left, place / 7, place % 7, stride)
+    match order {
+        Order::Current => equation_of(left, place / 7, place % 7, stride),
+        Order::Older => older_equation(left, place, stride),
+    }
+}
+
+fn throw_order(chance: &mut Chance) -> Order {
+    if chance.once_in(2) {
+        Order::Current
     } else {
-        older_equation(left, place, stride)
+        Order::Older
     }
 }
 
@@ -98,7 +105,7 @@ fn is_candidate(n: u32, least: u32, equation: Equation) -> bool {
 // in others if that is asked for.
 pub fn throw_list(chance: &mut Chance, far: bool) -> ShortList {
     let n = throw_fields(chance);
-    let order = chance.below(2);
+    let order = throw_order(chance);
     let least = throw_least(chance, n);
     let times = chance.below(4) + 1;
     let stride = throw_stride(chance, far || n == 1);
@@ -109,5 +116,9 @@ pub fn throw_list(chance: &mut Chance, far: bool) -> ShortList {
             words.extend_from_slice(&equation.words());
         }
     }
-    List { n, order, words }
+    List {
+        n,
+        order: u32::from(order),
+        words,
+    }
 }

@@ -3,7 +3,7 @@ use crate::comparing::{MOST_WORDS, try_on};
 use crate::filling::{Form, filled};
 use crate::hostile::refuse_all;
 use crate::run::Run;
-use evaluator::{Call, Limits, Refusal, Side, Store, USED_PLACE, Words, copy, put};
+use evaluator::{Call, Limits, Order, Refusal, Side, Store, USED_PLACE, Words, copy, put};
 
 type Expected = Result<u32, Refusal>;
 
@@ -96,7 +96,7 @@ fn try_wrapping(run: &mut Run, form: Form) {
 }
 
 // The stores of n fields within the limits, and with one entry more.
-fn try_within(run: &mut Run, n: u32, order: u32) {
+fn try_within(run: &mut Run, n: u32, order: Order) {
     let form = Form {
         n,
         questions: 8,
@@ -109,7 +109,7 @@ fn try_within(run: &mut Run, n: u32, order: u32) {
 }
 
 // With one field more, and with one question more.
-fn try_wider(run: &mut Run, order: u32) {
+fn try_wider(run: &mut Run, order: Order) {
     for (n, questions) in [(7, 8), (6, 9)] {
         let form = Form {
             n,
@@ -122,7 +122,7 @@ fn try_wider(run: &mut Run, order: u32) {
 
 // In both orders.
 pub fn try_logger_limits(run: &mut Run) {
-    for order in 0..2 {
+    for order in [Order::Current, Order::Older] {
         try_within(run, 1, order);
         try_within(run, 6, order);
         try_wider(run, order);

@@ -1,7 +1,10 @@
 // The same lists and the same rules at the institute and on the logger, in stores of different lengths. While each build is accepted by both or by
 // neither, both give the same answers and the same used words.
+ghost use Rattle.std.specs.Prelude.{◌≤◌};
+
 use crate::chance::Chance;
 use crate::comparing::{MOST_WORDS, try_on};
+use crate::lists::ShortList;
 use crate::opening::try_opening;
 use crate::raising::throw_logger_list;
 use crate::rules::{Table, throw_rich_table, throw_table};
@@ -25,8 +28,10 @@ impl Stores<'_> {
     }
 }
 
-// The length of a store for a list of so many words: now and then too short, or with room for some thirty entries, or for more than 200.
-fn throw_length(chance: &mut Chance, listed: usize) -> usize {
+// The length of a store for a list: now and then too short, or with room for some thirty entries, or for more than 200.
+fn throw_length(chance: &mut Chance, list: &ShortList) -> usize
+    ensures { result ≤ 1024 }
+{
     let way = chance.below(12);
     let more = chance.below(90) as usize;
     let spare = match way {
@@ -34,7 +39,7 @@ fn throw_length(chance: &mut Chance, listed: usize) -> usize {
         1..=3 => more,
         _ => 610 + 3 * more,
     };
-    (HEADING + spare).saturating_add(listed)
+    HEADING + list.words.len() + spare
 }
 
 // One of the two has refused, which can only be for want of room; from here on the stores may differ. Where the logger's store is long enough for 201
@@ -99,8 +104,8 @@ fn open_both(run: &mut Run, opening: Opening<'_>, stores: &mut Stores<'_>) {
 // One generated list with two stores.
 fn logger_round(run: &mut Run) {
     let list = throw_logger_list(&mut run.chance);
-    let there = throw_length(&mut run.chance, list.words.len());
-    let here = throw_length(&mut run.chance, list.words.len());
+    let there = throw_length(&mut run.chance, &list);
+    let here = throw_length(&mut run.chance, &list);
     let mut institute = Words::<MOST_WORDS>::filled(7, there);
     let mut logger = Words::<MOST_WORDS>::filled(7, here);
     let mut stores = Stores {

@@ -12,7 +12,7 @@ fn open_on(side: Side, opening: Opening<'_>, store: &mut [u32]) -> Answer {
     }
 }
 
-// At the institute or on the logger; gives the number of the answer.
+// At the institute or on the logger; gives the number of the answer, as sheet has it, which is C's.
 pub fn try_opening(run: &mut Run, side: Side, opening: Opening<'_>, store: &mut [u32]) -> u32 {
     let mut words = Words::<MOST_WORDS>::filled(0, store.len());
     let expected = expect_opened(side.limits(), opening, store, words.as_mut_slice());

@@ -2,6 +2,7 @@
 use crate::chance::Chance;
 use evaluator::at;
 
+// Of words, since a list that was spoiled before may have a word that is no order.
 pub fn other_order(order: u32) -> u32 {
     if order == 0 { 1 } else { 0 }
 }

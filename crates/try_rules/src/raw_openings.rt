@@ -1,5 +1,5 @@
 // Generated raw lists, opened against the evaluator; and what remains of them, opened as a list.
-ghost use Rattle.std.specs.Prelude.{◌<◌, ◌^◌};
+ghost use Rattle.std.specs.Prelude.{◌≤◌};
 
 use crate::chance::Chance;
 use crate::lists::{List, ShortList, throw_list};
@@ -24,18 +24,15 @@ const MOST_STORE: usize = HEADING + MOST_THROWN_WORDS + 8;
 // One of the list's questions; or, if there are to be many, one of forty questions about field 1.
 fn throw_meant(chance: &mut Chance, list: &ShortList, many: bool) -> Equation {
     let number = chance.below(40);
-    let place = throw_pair(chance, list);
-    let words = list.words.room();
+    let k = throw_pair(chance, list);
+    let (pairs, _) = list.words.room().as_chunks::<2>();
     if many {
         Equation {
             left: 1,
             right: 32 * number,
         }
     } else {
-        Equation {
-            left: at(words, place),
-            right: at(words, place + 1),
-        }
+        Equation::from(at(pairs, k))
     }
 }
 
@@ -51,7 +48,7 @@ fn throw_dropped(chance: &mut Chance, n: u32) -> Equation {
 
 // Steps for both sides: none or some, at most so many that no term goes above the limit.
 fn throw_more(chance: &mut Chance) -> u32
-    ensures { result < 2 ^ 15 }
+    ensures { result ≤ 980 }
 {
     let most = if chance.once_in(2) { 0 } else { 980 };
     chance.below(most)
@@ -128,13 +125,14 @@ pub struct RawTally {
 }
 
 impl RawTally {
-    // An opening by what it must answer, and by the questions that remain.
-    fn count(&mut self, expected: Result<(), Refusal>, remain: usize) {
-        match expected {
-            Err(Refusal::TooManyEquations) => self.too_many = self.too_many.saturating_add(1),
-            Err(Refusal::ListedTerm) if remain > 20 => self.late = self.late.saturating_add(1),
-            Ok(()) if remain == 0 => self.nothing = self.nothing.saturating_add(1),
-            _ => {}
+    // An opening by the number that it answered, and by the questions that remain.
+    fn count(&mut self, number: u32, remain: usize) {
+        if number == Refusal::TooManyEquations.number() {
+            self.too_many = self.too_many.saturating_add(1);
+        } else if number == Refusal::ListedTerm.number() && remain > 20 {
+            self.late = self.late.saturating_add(1);
+        } else if number == 0 && remain == 0 {
+            self.nothing = self.nothing.saturating_add(1);
         }
     }
 }
@@ -147,8 +145,8 @@ fn open_listed(run: &mut Run, store: Store<'_>) {
     run.agree(found.number == 0 && words.as_slice() == store.0);
 }
 
-// Gives what it must answer.
-fn try_raw_opening(run: &mut Run, raw: Opening<'_>, store: &mut [u32]) -> Result<(), Refusal> {
+// Gives the number of the answer.
+fn try_raw_opening(run: &mut Run, raw: Opening<'_>, store: &mut [u32]) -> u32 {
     let mut words = Words::<MOST_STORE>::filled(0, store.len());
     let expected = expect_raw_opened(raw, store, words.as_mut_slice());
     let found = sheet_open_raw(raw.n, raw.order, raw.list, store);
@@ -157,7 +155,7 @@ fn try_raw_opening(run: &mut Run, raw: Opening<'_>, store: &mut [u32]) -> Result
     if found.number == 0 {
         open_listed(run, Store(store));
     }
-    expected
+    found.number
 }
 
 // One raw list, on a store that is up to three words too short for what remains of it, or up to six longer.
@@ -167,8 +165,8 @@ fn raw_round(run: &mut Run) {
     let remain = found_in(raw.words.as_slice()).len();
     let end = HEADING - 3 + remain + run.chance.below(10) as usize;
     let mut store = Words::<MOST_STORE>::filled(7, end);
-    let expected = try_raw_opening(run, raw.opening(), store.as_mut_slice());
-    run.raw.count(expected, remain / 2);
+    let number = try_raw_opening(run, raw.opening(), store.as_mut_slice());
+    run.raw.count(number, remain / 2);
 }
 
 // A list that is in its order by both openings, each on words of its own of the same length, which may be too short.

@@ -1,10 +1,12 @@
 // Generated lists, and generated stores, each with some calls.
+ghost use Rattle.std.specs.Prelude.{◌≤◌};
+
 use crate::asking::ask_handles;
 use crate::calls::try_calls;
 use crate::chance::Chance;
 use crate::changed::{try_changed, try_orders};
 use crate::ledger::{compare_pairs, open_ledger};
-use crate::lists::throw_list;
+use crate::lists::{ShortList, throw_list};
 use crate::opening::try_opening;
 use crate::run::Run;
 use crate::spoiling::spoil;
@@ -29,11 +31,13 @@ pub fn list_rounds(run: &mut Run) {
     }
 }
 
-// The length of a store for a list of so many words: with room for some thirty entries, and every third time for more than there ever are.
-fn throw_length(chance: &mut Chance, listed: usize) -> usize {
+// The length of a store for a list: with room for some thirty entries, and every third time for more than there ever are.
+fn throw_length(chance: &mut Chance, list: &ShortList) -> usize
+    ensures { result ≤ 512 }
+{
     let more = chance.below(90) as usize;
     let spare = if chance.once_in(3) { 350 } else { 0 };
-    (HEADING + more + spare).saturating_add(listed)
+    HEADING + list.words.len() + more + spare
 }
 
 // What is asked of a store after its calls, and once more when a word is changed, also the one that names its order.
@@ -49,7 +53,7 @@ fn ask_store(run: &mut Run, store: Store<'_>) {
 // One generated store with its list, and the calls on it.
 fn store_round(run: &mut Run) {
     let list = throw_list(&mut run.chance, false);
-    let length = throw_length(&mut run.chance, list.words.len());
+    let length = throw_length(&mut run.chance, &list);
     let mut words = Words::<512>::filled(7, length);
     let store = words.as_mut_slice();
     try_opening(run, Side::Institute, list.opening(), store);

@@ -1,6 +1,4 @@
 // Generated rule tables over a store's list, most of them good.
-ghost use Rattle.std.specs.Prelude.{◌<◌, ◌^◌};
-
 use crate::chance::Chance;
 use evaluator::{Equation, MOST_STEPS, Row, Store, Words};
 
@@ -16,9 +14,7 @@ fn asking(left: u32, right: u32) -> RowWords {
 
 // Steps to put on both sides of a question of a given gap: up to two, or any that the limit allows, or, now and then, just up to the limit or
 // one beyond it.
-fn throw_raise(chance: &mut Chance, gap: u32) -> u32
-    ensures { result < 2 ^ 18 }
-{
+fn throw_raise(chance: &mut Chance, gap: u32) -> u32 {
     let spare = MOST_STEPS.saturating_sub(gap);
     match chance.below(24) {
         0 => chance.from_on(spare, 2),
@@ -29,7 +25,7 @@ fn throw_raise(chance: &mut Chance, gap: u32) -> u32
 
 // A question as an equation: with the same steps more on both sides, and perhaps turned round.
 fn throw_raised(chance: &mut Chance, question: Equation) -> Equation {
-    let size = throw_raise(chance, question.gap()) * 32;
+    let size = throw_raise(chance, question.gap()).saturating_mul(32);
     let raised = Equation {
         left: question.left.saturating_add(size),
         right: question.right.saturating_add(size),
@@ -55,16 +51,10 @@ fn throw_missed(chance: &mut Chance, store: Store<'_>) -> Equation {
     }
 }
 
-// A term of a field up to 4, which may be too large, and up to 2 steps.
-fn throw_term(chance: &mut Chance) -> u32 {
-    let field = chance.below(5);
-    field + 32 * chance.below(3)
-}
-
-// An equation that may be on the list or not.
+// An equation that may be on the list or not, of fields up to 4, which may be too large.
 fn throw_equation(chance: &mut Chance) -> Equation {
-    let left = throw_term(chance);
-    let right = throw_term(chance);
+    let left = chance.low_term(5);
+    let right = chance.low_term(5);
     Equation { left, right }
 }
 

@@ -33,10 +33,10 @@ impl Run {
             chance: Chance::new(),
             compared: 0,
             differ: 0,
-            met: Tally::new(),
+            met: Tally::default(),
             stores: [Generated::default(); 2],
             ledger: Words::new(),
-            sides: Sides::new(),
+            sides: Sides::default(),
             raw: RawTally::default(),
         }
     }
@@ -67,11 +67,11 @@ impl Run {
         self.agree(found == expected.number);
     }
 
-    // An answer that was found against the one that was expected.
+    // An answer that was found against the one that was expected, by fields: the two are of crates that don't know each other, so neither == nor From is
+    // to be had.
     pub fn expect_answer<E: Into<Answer>>(&mut self, found: sheet::Answer, expected: E) {
         let expected: Answer = expected.into();
-        self.met.count(found.number);
-        self.agree(found.number == expected.number);
+        self.expect_number(found.number, expected);
         self.agree(found.result == expected.result);
     }
 }

@@ -1,4 +1,4 @@
-// What the institute and the logger came to by the same calls.
+// What the institute and the logger came to by the same calls, by the numbers of sheet's answers, which are C's: 0 accepts.
 use crate::tally::Tally;
 
 // How many calls of a kind both accepted, and how many both refused.
@@ -19,7 +19,7 @@ impl Agreed {
     }
 }
 
-#[derive(Clone, Copy)]
+#[derive(Clone, Copy, Default)]
 pub struct Sides {
     pub openings: Agreed,
     pub builds: Agreed,
@@ -31,16 +31,7 @@ pub struct Sides {
 }
 
 impl Sides {
-    pub fn new() -> Sides {
-        Sides {
-            openings: Agreed::default(),
-            builds: Agreed::default(),
-            institute_alone: Tally::new(),
-            logger_alone: Tally::new(),
-            full: 0,
-        }
-    }
-
+    // Two functions of two lines each: one would take an enum for the field.
     pub fn count_opening(&mut self, there: u32, here: u32) {
         self.openings.count(there, here);
         self.count_alone(there, here);

@@ -14,12 +14,6 @@ fn throw_sheet(chance: &mut Chance) -> Sheet {
     sheet
 }
 
-// A term of few fields, so that equations of one field and of zero come often.
-fn throw_low_term(chance: &mut Chance) -> u32 {
-    let field = chance.below(3);
-    field + 32 * chance.below(3)
-}
-
 // A number of steps: a few, any up to the limit, or some near 255 or near the limit.
 fn throw_steps(chance: &mut Chance) -> u32 {
     match chance.below(8) {
@@ -36,7 +30,8 @@ fn throw_term(chance: &mut Chance) -> u32 {
     throw_steps(chance).saturating_mul(32).saturating_add(field)
 }
 
-// The form of the answer: a question beside its gap, right steps minus left steps, and zeros beside all else.
+// The form of the answer: a question beside its gap, right steps minus left steps, and zeros beside all else. The answer is C's record, whose numbers are
+// what is tested here.
 fn is_formed(a: SimplifyAnswer) -> bool {
     if a.number == 0 && a.result == 2 {
         let gap = i64::from(steps(a.right)) - i64::from(steps(a.left));
@@ -46,6 +41,7 @@ fn is_formed(a: SimplifyAnswer) -> bool {
     is_plain && (a.result == 0 || (a.result == 1 && a.number == 0))
 }
 
+// From can't be given to types of two other crates.
 fn question_of(a: SimplifyAnswer) -> Equation {
     Equation {
         left: a.left,
@@ -56,9 +52,9 @@ fn question_of(a: SimplifyAnswer) -> Equation {
 // The truth at a sheet of what an equation was simplified to.
 fn truth(a: SimplifyAnswer, sheet: &Sheet) -> bool {
     match a.result {
-        0 => false,
         1 => true,
-        _ => question_of(a).holds(sheet),
+        2 => question_of(a).holds(sheet),
+        _ => false,
     }
 }
 
@@ -116,10 +112,10 @@ fn try_thrown(run: &mut Run) {
     compare_equation(run, Equation { left, right });
 }
 
-// Terms of few steps, and the same number of steps more on both sides: none, or any that brings a side at most one beyond the limit.
+// Terms of few steps and of few fields, so that equations of one field and of zero come often; and the same number of steps more on both sides: none, or any that brings a side at most one beyond the limit.
 fn try_low(run: &mut Run) {
-    let left = throw_low_term(&mut run.chance);
-    let right = throw_low_term(&mut run.chance);
+    let left = run.chance.low_term(3);
+    let right = run.chance.low_term(3);
     let size = 32 * run.chance.below(MOST_STEPS);
     let raised = Equation {
         left: left.saturating_add(size),

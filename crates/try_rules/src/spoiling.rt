@@ -1,6 +1,4 @@
 // Lists spoiled in one way or another.
-ghost use Rattle.std.specs.Prelude.{◌<◌, ◌^◌};
-
 use crate::chance::Chance;
 use crate::lists::{List, ShortList};
 use crate::orders::{other_order, throw_unknown};
@@ -14,24 +12,18 @@ impl<const N: usize> List<N> {
 }
 
 // Any place of a list.
-pub fn throw_place<const N: usize>(chance: &mut Chance, list: &List<N>) -> usize
-    ensures { result < 2 ^ 15 }
-{
+pub fn throw_place<const N: usize>(chance: &mut Chance, list: &List<N>) -> usize {
     let length = u32::try_from(list.words.len()).unwrap_or(u32::MAX);
     chance.below(length) as usize
 }
 
-// The place of any question of a list.
-pub fn throw_pair(chance: &mut Chance, list: &ShortList) -> usize
-    ensures { result < 2 ^ 15 }
-{
-    throw_place(chance, list) / 2 * 2
+// The number of any question of a list, counted from 0.
+pub fn throw_pair(chance: &mut Chance, list: &ShortList) -> usize {
+    throw_place(chance, list) / 2
 }
 
 // Writes a thrown word over one of the list.
-fn spoil_word(chance: &mut Chance, list: &mut ShortList, least: u32, bound: u32)
-    requires { least < 2 ^ 17 }
-{
+fn spoil_word(chance: &mut Chance, list: &mut ShortList, least: u32, bound: u32) {
     let place = throw_place(chance, list);
     let word = chance.from_on(least, bound);
     list.spoil_word(place, word);
@@ -39,19 +31,19 @@ fn spoil_word(chance: &mut Chance, list: &mut ShortList, least: u32, bound: u32)
 
 // Turns a question round.
 fn turn_pair(chance: &mut Chance, list: &mut ShortList) {
-    let pair = throw_pair(chance, list);
-    let words = list.words.room_mut();
-    let left = at(words, pair);
-    put(words, pair, at(words, pair + 1));
-    put(words, pair + 1, left);
+    let k = throw_pair(chance, list);
+    let (pairs, _) = list.words.room_mut().as_chunks_mut::<2>();
+    if let Some(pair) = pairs.get_mut(k) {
+        pair.reverse();
+    }
 }
 
 // Writes a question over the next one.
 fn double_pair(chance: &mut Chance, list: &mut ShortList) {
-    let pair = throw_pair(chance, list);
-    let words = list.words.room_mut();
-    put(words, pair + 2, at(words, pair));
-    put(words, pair + 3, at(words, pair + 1));
+    let k = throw_pair(chance, list);
+    let (pairs, _) = list.words.room_mut().as_chunks_mut::<2>();
+    let doubled = at(pairs, k);
+    put(pairs, k.saturating_add(1), doubled);
 }
 
 // Spoils a list in one of ten ways, or leaves it as it is. A list that is given with the other order may still be good.
