@@ -15,3 +15,4 @@ pub mod OpenAccepts
 pub mod OpenedWords
 pub mod OpenSound
 pub mod OpenWays
+pub mod ListWritten

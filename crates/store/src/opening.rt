@@ -106,6 +106,17 @@ fn first_fault(
     opening_in(known, limits, n, list, words)
 }
 
+// Writes the list behind the heading. A loop and no `copy_from_slice`, which calls `memmove`: the library promises to call `memcpy` and `memset` alone.
+fn write_list(list: &[u32], store: &mut [u32])
+    requires { heading_length + length list.now ≤ length store.old }
+    ensures { store.new
+        ≡ take heading_length store.old ++ list.now ++ drop (heading_length + length list.now) store.old }
+{
+    for i in 0..list.len() {
+        store[HEADING + i] = list[i];
+    }
+}
+
 // Writes a store with no entries.
 #[tactic(auto, unfolding(crate::specs::Open::opened_words))]
 pub fn write_opened(n: u32, order: u32, list: &[u32], store: &mut [u32])
@@ -114,7 +125,7 @@ pub fn write_opened(n: u32, order: u32, list: &[u32], store: &mut [u32])
     ensures { store.new ≡ spec.opened_words n order list.now (length store.old) }
 {
     write_heading(n, (list.len() / 2) as u32, order, store);
-    store[HEADING..HEADING + list.len()].copy_from_slice(list);
+    write_list(list, store);
     clear_from(store, HEADING + list.len());
 }
 
