@@ -2,7 +2,7 @@
 
    Link libsheet.a, which `c/library` builds (x86-64 Linux). The library calls nothing but memcpy and memset, keeps nothing from one
    call to the next, and has no memory of its own: it reads and writes what is lent, and its stack. A call takes less than 65,536 bytes of
-   stack: the most that was measured is 48,552, of build over 20 questions. No proof speaks of it.
+   stack: the most that was measured is 49,400, of an example over 20 questions. No proof speaks of it.
 
    A term word is steps x 32 + field. Field 0 stands for zero, the fields of a sheet are numbered from 1.
 

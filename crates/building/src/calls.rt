@@ -20,6 +20,7 @@ pub fn build_within(limits: Limits, store: &mut [u32], table: &[u32]) -> Result<
     requires { FitLimits limits }
     ensures { outcome result store.new ≡ operation.build limits store.old table.now }
 {
+    // Each operation makes this test itself, as in reading.
     if !is_sound(limits, store) {
         return Err(BuildFault::NotSound);
     }
@@ -51,6 +52,7 @@ pub fn choose_within(
     requires { FitLimits limits }
     ensures { outcome result store.new ≡ operation.choose limits store.old a b c }
 {
+    // Each operation makes this test itself, as in reading.
     if !is_sound(limits, store) {
         return Err(BuildFault::NotSound);
     }

@@ -18,7 +18,7 @@ pub const HANDLES: usize = CAPACITY + LEAVES;
 // A flag for each handle: the library has no heap, so there is a place for the most.
 pub type Flags = [bool; HANDLES];
 
-// The i-th entry.
+// The i-th entry. tables reads the four words of a row alike, for fields of other names.
 pub fn entry_of(t: &[u32], i: usize) -> Entry
     requires { HasEntry t.now i }
     ensures { result ≡ table.entry t.now i }

@@ -40,7 +40,7 @@ impl<'a> Table<'a> {
         self.words.len() / ENTRY_LENGTH
     }
 
-    // The i-th entry.
+    // The i-th entry. The bound is of a place and a table together, so it is an invariant of neither.
     pub fn entry(self, i: usize) -> Entry
         requires { i < entry_count self.words.now }
         ensures { result ≡ entry self.entry.words.now i }

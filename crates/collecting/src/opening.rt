@@ -56,7 +56,7 @@ fn open_raw_in(
     open_resulting(limits, n, known, &questions, store)
 }
 
-// Opens a store with a raw list, within limits.
+// Opens a store with a raw list, within limits. 11 and 18 again, with faults of its own.
 #[tactic(auto, unfolding(raw_lists::specs::OpenRaw::open_raw))]
 fn open_raw_within(
     limits: Limits,

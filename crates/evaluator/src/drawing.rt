@@ -12,7 +12,7 @@ use crate::words::{first, put};
 // How many ways there are to answer the questions of a list.
 const WAYS: usize = 1 << MOST_DRAWN;
 
-// The leaf of each way, question 1 being the highest digit; none where no sheet answers so.
+// The leaf of each way, question 1 being the highest digit; none where no sheet answers so. An array, since there is a place for each way.
 type Ways = [Option<bool>; WAYS];
 
 // What a sheet answers to the questions, as one number; of more questions than diagrams are drawn for, to the last ones.

@@ -26,6 +26,7 @@ fn settles(join: Join, places: &Places, q: Equation) -> bool
 }
 
 // Whether a join settles no question answered no. The record is lent: by value it would be copied for each question that is asked.
+// A `for` and no `all`: its closure would have to be told that each pair is small, which the loop has from the list.
 fn join_is_free(f: &Facts, join: Join) -> bool
     requires { need.CanJoin f.now join.by }
     ensures { result ≡ state.free (state.planned (spec.state f.now) (Plan.Join join)) }

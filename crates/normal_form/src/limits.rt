@@ -8,7 +8,7 @@ const MOST_TABLE_STEPS: u32 = 4095;
 
 pub const MOST_TABLE_ENTRIES: u32 = 4096;
 
-// What a table may hold: the limits of its terms, and the largest number of entries.
+// What a table may hold: the limits of its terms, and the largest number of entries. Not the Limits of a store, which has questions too.
 #[derive(Clone, Copy, Debug, PartialEq, Eq)]
 pub struct TableLimits {
     pub terms: TermLimits,

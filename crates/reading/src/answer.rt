@@ -24,8 +24,8 @@ impl Refusal for ReadFault {
     }
 }
 
-// The result of an answer. A function for each operation that has a result: a trait of what they give would be longer than they are, and a wrong
-// definition of one is refused by the promise beside it.
+// The result of an answer. A function for each operation that has a result, and not one over `Into`: the project wants each wrong definition refused by
+// the promise of its own crate, and this is that of `read_result`.
 pub fn read_result(r: Result<bool, ReadFault>) -> u32
     ensures { result ≡ spec.read_result r }
 {

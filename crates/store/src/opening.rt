@@ -13,7 +13,7 @@ use terms::{
     terms_within,
 };
 
-// The k-th question of a list of term words, counted from 0.
+// The k-th question of a list of term words, counted from 0. The bound is of a place and a list together, so it is an invariant of neither.
 pub fn question_in(list: &[u32], k: usize) -> Equation
     requires { 2 * k + 2 ≤ length list.now }
     ensures { result ≡ question_in list.now k }
@@ -106,7 +106,8 @@ fn first_fault(
     opening_in(known, limits, n, list, words)
 }
 
-// Writes the list behind the heading. A loop and no `copy_from_slice`, which calls `memmove`: the library promises to call `memcpy` and `memset` alone.
+// Writes the list behind the heading. A loop and no `copy_from_slice`, which for a length that is known only when it runs calls
+// `memmove`: the library promises to call `memcpy` and `memset` alone.
 fn write_list(list: &[u32], store: &mut [u32])
     requires { heading_length + length list.now ≤ length store.old }
     ensures { store.new
