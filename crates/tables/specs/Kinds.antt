@@ -15,10 +15,10 @@ kind_number Choose = 5
 -- the kind that has a number; any other number names none
 abbrev pub kind_named : ℕ → Result Kind UnknownKind
 kind_named k =
-    cond (eqb k 0) (Ok Never)
-    (cond (eqb k 1) (Ok Always)
-    (cond (eqb k 2) (Ok Equation)
-    (cond (eqb k 3) (Ok Not)
-    (cond (eqb k 4) (Ok And)
-    (cond (eqb k 5) (Ok Choose)
+    cond (eqb k (kind_number Never)) (Ok Never)
+    (cond (eqb k (kind_number Always)) (Ok Always)
+    (cond (eqb k (kind_number Equation)) (Ok Equation)
+    (cond (eqb k (kind_number Not)) (Ok Not)
+    (cond (eqb k (kind_number And)) (Ok And)
+    (cond (eqb k (kind_number Choose)) (Ok Choose)
     (Err (record {})))))))
