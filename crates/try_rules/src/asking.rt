@@ -15,7 +15,7 @@ pub fn ask_verdict(run: &mut Run, store: Store<'_>, handle: u32) {
     );
 }
 
-// The evaluator is to know what reading answers, so no sheet is thrown that has too many fillings for it. An answer that it doesn't know is passed over.
+// No sheet is thrown that has more fillings than the evaluator tries. If one had, that would count as a difference, and the answer be passed over.
 pub fn ask_read(run: &mut Run, store: Store<'_>, handle: u32, sheet: &[u16]) {
     let found = sheet_read(store.0, handle, sheet);
     let expected = expect_read(store, handle, sheet);
