@@ -202,11 +202,35 @@ static void case_11(void)
     answer("11 verdict", sheet_verdict(store, LENGTH(store), 3), 0, 2);
     answer("11 read 2", sheet_read(store, LENGTH(store), 3, (const uint16_t[]){2}, 1), 0, 1);
     answer("11 read 1", sheet_read(store, LENGTH(store), 3, (const uint16_t[]){1}, 1), 0, 0);
-    answer("11 read 65535", sheet_read(store, LENGTH(store), 3, (const uint16_t[]){65535}, 1), 0, 1);
+    answer("11 read 65534", sheet_read(store, LENGTH(store), 3, (const uint16_t[]){65534}, 1), 0, 1);
+    answer("11 read 65535", sheet_read(store, LENGTH(store), 3, (const uint16_t[]){SHEET_BLANK}, 1), 0, 2);
     answer("11 read 1 1", sheet_read(store, LENGTH(store), 3, (const uint16_t[]){1, 1}, 2), 23, 0);
     written_back(store, LENGTH(store));
     answer("11 negate 3", sheet_negate(store, LENGTH(store), 3), 51, 0);
     words(store, WORDS(1, 2, 2, 0, 1, 0, 1, 32, 2, 0, 1, 1, 0, 2, 0, 0, 0));
+}
+
+/* Sheets on which some fields were not counted: 2 = S3(1), a store that is not finished, and 3 = 2 and 3 = 1. */
+static void blanks(void)
+{
+    const uint16_t none[3] = {SHEET_BLANK, SHEET_BLANK, SHEET_BLANK};
+    const uint32_t more[] = {2, 1, 1, 0, 2, 97, 1, 1, 0};
+    answer("iii read 65534 _", sheet_read(more, LENGTH(more), 2, (const uint16_t[]){65534, SHEET_BLANK}, 2), 0, 2);
+    answer("iii read _ 2", sheet_read(more, LENGTH(more), 2, (const uint16_t[]){SHEET_BLANK, 2}, 2), 0, 0);
+    answer("iii read _ 65534", sheet_read(more, LENGTH(more), 2, (const uint16_t[]){SHEET_BLANK, 65534}, 2), 0, 2);
+    answer("iii read 0 3", sheet_read(more, LENGTH(more), 2, (const uint16_t[]){0, 3}, 2), 0, 1);
+    answer("iii read 65534 65534", sheet_read(more, LENGTH(more), 2, (const uint16_t[]){65534, 65534}, 2), 0, 0);
+    answer("iii read three blanks of two", sheet_read(more, LENGTH(more), 2, none, 3), 23, 0);
+    const uint32_t unfinished[] = {3, 3, 3, 0, 2, 1, 3, 1, 3, 2, 3, 1, 0, 2, 2, 1, 1, 3, 1};
+    answer("iii read _ _ _ unfinished", sheet_read(unfinished, LENGTH(unfinished), 4, none, 3), 0, 1);
+    answer("iii read 5 5 _ unfinished", sheet_read(unfinished, LENGTH(unfinished), 4, (const uint16_t[]){5, 5, SHEET_BLANK}, 3), 0, 1);
+    uint32_t both[16];
+    answer("iii open", sheet_open(3, 0, WORDS(2, 1, 3, 1, 3, 2), both, LENGTH(both)), 0, 0);
+    answer("iii build", sheet_build(both, LENGTH(both), WORDS(2, 3, 2, 0, 2, 3, 1, 0, 4, 0, 1, 0)), 0, 3);
+    answer("iii read 7 8 _", sheet_read(both, LENGTH(both), 3, (const uint16_t[]){7, 8, SHEET_BLANK}, 3), 0, 0);
+    answer("iii read 7 7 _", sheet_read(both, LENGTH(both), 3, (const uint16_t[]){7, 7, SHEET_BLANK}, 3), 0, 2);
+    answer("iii read _ _ _", sheet_read(both, LENGTH(both), 3, none, 3), 0, 2);
+    answer("iii verdict", sheet_verdict(both, LENGTH(both), 3), 0, 2);
 }
 
 static void case_12(void)
@@ -711,6 +735,7 @@ int main(void)
     case_10();
     case_11();
     case_12();
+    blanks();
     steps_simplified();
     steps_built();
     steps_added_up();

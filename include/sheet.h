@@ -35,7 +35,9 @@
      0 never; 1 always; 2 the equation of the term words a and b; 3 not row a; 4 rows a and b; 5 if row a then row b else row c.
    References go to lower rows, and columns that a kind does not use are 0.
 
-   A sheet is n counts of 16 bits, field 1 first.
+   A sheet is n counts of 16 bits, field 1 first. 65,535 (SHEET_BLANK) is no count: it means that the field was not counted. sheet_read takes
+   such sheets. A filling of a sheet gives each blank a natural number of any size, each by itself, and leaves the counts as they are. No
+   count of an example is 65,535, since none is above 16,384.
 
    A table of diagrams, which another tool has made and sheet_check_normal_form checks, is entries of four words: left term word, right term
    word, yes handle, no handle. Handles are numbered as in a store: 0 is never, 1 is always, and the i-th entry, counted from 0, is handle
@@ -84,6 +86,9 @@
 #ifdef __cplusplus
 extern "C" {
 #endif
+
+/* On a sheet: the field was not counted. */
+#define SHEET_BLANK 65535
 
 typedef struct {
     uint32_t number;
@@ -148,7 +153,9 @@ sheet_answer sheet_verdict(const uint32_t *store, size_t store_len, uint32_t a);
    Refusals: 22, 41, 23 (sheet_len is not n), 52. */
 sheet_answer sheet_example(const uint32_t *store, size_t store_len, uint32_t a, uint16_t *sheet, size_t sheet_len);
 
-/* Reads a sheet: the result is 1 if it satisfies the handle, else 0. sheet_len is n.
+/* Reads a sheet on which some fields may not be counted (SHEET_BLANK): the result is 1 if every filling of the blanks satisfies the handle, 0 if
+   none does, 2 if some do and some don't. Without blanks the sheet is its own one filling, and the result is 1 or 0; of a sheet of blanks only
+   it is the verdict. sheet_len is n.
    Refusals: 22, 41, 23 (sheet_len is not n). */
 sheet_answer sheet_read(const uint32_t *store, size_t store_len, uint32_t a, const uint16_t *sheet, size_t sheet_len);
 

@@ -3,6 +3,7 @@ use Rattle.examples.specs.Best.{counts_from, best}
 use Rattle.examples.specs.Example.{example}
 use Rattle.examples.specs.LargestGap.{largest_gap}
 use Rattle.facts.specs.Least.{first_from, fixed}
+use Rattle.reading.specs.Blanks.{facts_up_to}
 use Rattle.reading.specs.Read.{read_sheet}
 use Rattle.terms.specs.Simplify.{simplify_words}
 use Rattle.verdicts.specs.Leaves.{reached}
@@ -14,5 +15,5 @@ unfolding mark_parts marks_down reachable marked_before row_of entry_rows entrie
 writing_computes = Unit {0}
 
 unfoldable pub asking_computes : Type 0
-unfolding writing_computes simplify_words read_sheet reached verdict first_from fixed counts_from best example largest_gap
+unfolding writing_computes simplify_words facts_up_to read_sheet reached verdict first_from fixed counts_from best example largest_gap
 asking_computes = Unit {0}

@@ -1,4 +1,5 @@
 pub mod Case
+pub mod BlanksTable
 pub mod LoggerTable
 pub mod RawTable
 pub mod Table

@@ -2,6 +2,7 @@
 -- words give it. By document 02 (ix) a store's heading has a fourth word, its order, and each length is one word more.
 use Rattle.std.specs.Prelude.{ℕ, List, [], ◌∷◌, ◌++◌, pos, negsuc, replicate}
 use Rattle.operations.specs.ThreeEqual.{three_equal, last_equal, outer_equal, not_outer, after_case_6}
+use Rattle.cases.specs.BlanksTable.{blanks_cases}
 use Rattle.cases.specs.LoggerTable.{logger_cases}
 use Rattle.cases.specs.RawTable.{raw_cases}
 use Rattle.cases.specs.Case.{simplify, open_with, build, logger_open, logger_build, negate, join, choose, read, write_back, verdict, example, check, ask_list_gap, simplified, answered, checked, gap_is, CaseCall, Case}
@@ -453,4 +454,4 @@ cases =
     ∷ check_shapes ∷ check_examples ∷ check_rule_8 ∷ check_rules_3_to_7 ∷ check_order ∷ check_terms ∷ check_handles
     ∷ check_differing_entries ∷ check_limits
     ∷ orders_opened ∷ orders_compared ∷ orders_refused ∷ openings_refused ∷ rules_fields_first ∷ rules_left_first ∷ unknown_order_refused
-    ∷ (orders_in_a_store ++ logger_cases ++ raw_cases)
+    ∷ (orders_in_a_store ++ logger_cases ++ raw_cases ++ blanks_cases)

@@ -43,9 +43,9 @@ module _ {s : List ℕ} {handle : ℕ} {f : Facts} {n : ℕ} (k : CanSeek s hand
       let w = k.descent in
       let h = w.holds in
       record {
-        most = w.limits.terms.steps.0;
+        most = k.most;
         holds = record { facts = h.facts; small = h.small; is = h.is; fitted = h.fitted; few = omega (arith, h.few, w.few, (sound_says w.limits s w.sound_in).questions_in, w.fit.questions_fit) };
-        few_steps = w.fit.counts_fit;
+        few_steps = k.few_steps;
         few_fields = k.few_fields;
       }
 

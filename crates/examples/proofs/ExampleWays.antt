@@ -45,7 +45,12 @@ module _ {s : List ℕ} {handle : ℕ} {out : List ℕ} (k : CanGive s handle ou
 
   module _ (f : Facts) (ef : state f ≡ start) {n : ℕ} (en : n ≡ field_count s) where
     pub can_seek : CanSeek s handle f n
-    can_seek = record { descent = descent_starts k.limits s k.fit k.sound_in handle k.handle_in f ef; few_fields = omega (arith, few_fields) }
+    can_seek = record {
+      most = k.limits.terms.steps.0;
+      few_steps = k.fit.counts_fit;
+      descent = descent_starts k.limits s k.fit k.sound_in handle k.handle_in k.limits.terms.steps.0 (omega arith) (omega (arith, k.fit.counts_fit)) f ef;
+      few_fields = omega (arith, few_fields);
+    }
 
     module _ (r : Option Sheet) (er : best_of n r ≡ best (question s) n (tree s handle) (state f) None) where
       the_best : best_of (field_count s) r ≡ best_sheet s handle

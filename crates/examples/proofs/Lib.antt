@@ -10,4 +10,5 @@ pub mod LargestGapIs
 pub mod ExampleBound
 pub mod ExampleFirst
 pub mod ExampleWithinLimits
+pub mod ExampleReads
 pub mod ExampleWays

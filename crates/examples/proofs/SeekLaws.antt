@@ -25,6 +25,7 @@ use Rattle.examples.proofs.BestLaws.{sized}
 use Rattle.examples.proofs.BestOnly.{best_turned}
 use Rattle.store.proofs.SoundFacts.{sound_says}
 use Rattle.store.proofs.SoundTree.{tree_node}
+use Rattle.verdicts.specs.Needs.{CanDescend}
 use Rattle.verdicts.proofs.DescentLaws as descent
 
 -- ---- up to the question
@@ -72,24 +73,22 @@ module _ {s : List ℕ} {handle : ℕ} {f : Facts} {n y m : ℕ} {q : Equation} 
   pub no_falls : {t : ℕ} → handle ≡ t → m < t
   no_falls e = descent.no_falls x.can.descent inner x.here_is e x.no_is
 
+  -- on from another handle with other facts, whose steps are as few
+  keeps : {h : ℕ} {g : Facts} → CanDescend x.can.most s h g → CanSeek s h g n
+  keeps down = record { most = x.can.most; few_steps = x.can.few_steps; descent = down; few_fields = x.can.few_fields }
+
   pub skip_yes : CanSeek s y f n
-  skip_yes = record { descent = descent.can_skip_yes x.can.descent inner x.here_is x.yes_is; few_fields = x.can.few_fields }
+  skip_yes = keeps (descent.can_skip_yes x.can.descent inner x.here_is x.yes_is)
 
   pub skip_no : CanSeek s m f n
-  skip_no = record { descent = descent.can_skip_no x.can.descent inner x.here_is x.no_is; few_fields = x.can.few_fields }
+  skip_no = keeps (descent.can_skip_no x.can.descent inner x.here_is x.no_is)
 
   module _ {g : Facts} (a : AskedOf f q (asked.Open g)) where
     pub go_yes : CanSeek s y g n
-    go_yes = record {
-      descent = descent.can_go_yes x.can.descent inner x.here_is x.number_is x.question_is a x.yes_is;
-      few_fields = x.can.few_fields;
-    }
+    go_yes = keeps (descent.can_go_yes x.can.descent inner x.here_is x.number_is x.question_is a x.yes_is)
 
     pub go_no : {other : Facts} → state other ≡ no_to (state f) q → CanSeek s m other n
-    go_no eg = record {
-      descent = descent.can_go_no x.can.descent inner x.here_is x.number_is x.question_is a x.no_is eg;
-      few_fields = x.can.few_fields;
-    }
+    go_no eg = keeps (descent.can_go_no x.can.descent inner x.here_is x.number_is x.question_is a x.no_is eg)
 
   -- ---- the best sheet, by the decision
   here_asked : q ≡ question s x.here.question

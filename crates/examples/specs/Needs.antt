@@ -1,5 +1,5 @@
 -- What the code relies on, and no claim.
-use Rattle.std.specs.Prelude.{ℕ, ◌+◌, ◌≤◌, ◌<◌, ◌≡◌, Bool, true, false, not, List, length, get_or, Option, Some, None}
+use Rattle.std.specs.Prelude.{ℕ, ◌+◌, ◌*◌, ◌≤◌, ◌<◌, ◌≡◌, Bool, true, false, not, List, length, get_or, Option, Some, None}
 use Rattle.examples.specs.Best.{counts_from, sheet, Best}
 use Rattle.facts.specs.declared.least.Sheet.{Sheet}
 use Rattle.facts.specs.declared.record.Facts.{Facts}
@@ -30,8 +30,11 @@ best_of n None = None
 pub record Fields (n : ℕ) : Type 0 where
   pub few : n ≤ last_field
 
+-- a way down from a handle with facts of so few steps that no count of a least sheet is too large
 pub record CanSeek (s : List ℕ) (handle : ℕ) (f : Facts) (n : ℕ) : Type 0 where
-  pub descent : CanDescend s handle f
+  pub most : ℕ
+  pub few_steps : last_field * (most + 1) ≤ most_count
+  pub descent : CanDescend most s handle f
   pub few_fields : n ≤ last_field
 
 -- the slice has a field of the sheet for each of its places, and the counts fit 16 bits

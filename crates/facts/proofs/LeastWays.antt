@@ -18,8 +18,8 @@ use Rattle.facts.proofs.LeastSheet.{count_fits, least_count_can, least_count_le,
 use Rattle.facts.proofs.StateFree.{state_of_zero}
 
 -- ---- one field
-fix_small : {x count : ℕ} → x ≤ last_field → count ≤ most_count → Small most_count (counts x count)
-fix_small h l = record { left_in = h; right_in = omega arith; left_steps = omega arith; right_steps = l }
+pub counts_small : {x count : ℕ} → x ≤ last_field → count ≤ most_count → Small most_count (counts x count)
+counts_small h l = record { left_in = h; right_in = omega arith; left_steps = omega arith; right_steps = l }
 
 holds_more : {most_no m n : ℕ} {f : Facts} → m ≤ n → Holds most_no m f → Holds most_no n f
 holds_more {m = m} {n = n} l h = record { facts = h.facts; small = all_more h.facts h.small; is = h.is; fitted = h.fitted; few = h.few }
@@ -87,7 +87,7 @@ module _ {start : Facts} {n : ℕ} (has : HasLeast start n) where
     }
       where
         fixed_small : Small most_count (counts i (least_count (state f) i))
-        fixed_small = fix_small (omega (arith, has.few_fields)) can_fix.small_count
+        fixed_small = counts_small (omega (arith, has.few_fields)) can_fix.small_count
 
         go : (j : ℕ) → j < suc b.done → Dec (j ≡ b.done) → get_or (set found i count) (suc j) 0 ≡ least_count (fixed j (state start)) (suc j)
         go j h (yes e) =

@@ -15,7 +15,7 @@ pub struct Sheet {
 }
 
 // The question whether a field has a count.
-fn has_count(x: Field, count: u32) -> Equation
+pub fn has_count(x: Field, count: u32) -> Equation
     ensures { result ≡ least.counts x.0 count }
 {
     Equation {

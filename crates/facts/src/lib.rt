@@ -17,7 +17,7 @@ pub use asking::{Asked, ask, yes};
 pub use deciding::decision_of;
 pub use decision::{Decision, Join, Plan, plan_yes};
 pub use fact::Fact;
-pub use least::{Sheet, least_sheet};
+pub use least::{Sheet, has_count, least_sheet};
 pub use noes::{Noes, WordPair};
 pub use place::Place;
 pub use record::{FIELDS, Facts, no_facts, offset_of};

@@ -1,1 +1,7 @@
+pub mod SheetFacts
+pub mod ReadMeans
+pub mod SameReading
+pub mod CountedSheet
+pub mod BlankSheet
+pub mod CountWays
 pub mod ReadWays

@@ -1,8 +1,28 @@
-// Why a sheet is not read, and document 01's numbers for the answers of reading.
+// What reading answers, why a sheet is not read, and the documents' numbers for both.
 ghost use Rattle.std.specs.Prelude.{◌≡◌};
 ghost use Rattle.reading.specs.Read as spec;
 
 use terms::Refusal;
+
+// No filling of the sheet's blanks satisfies the handle, every filling does, or it depends on what was not counted.
+#[derive(Clone, Copy, Debug, PartialEq, Eq)]
+pub enum Reading {
+    Fails,
+    Satisfies,
+    Depends,
+}
+
+impl From<Reading> for u32 {
+    fn from(reading: Reading) -> u32
+        ensures { result ≡ spec.reading_word reading }
+    {
+        match reading {
+            Reading::Fails => 0,
+            Reading::Satisfies => 1,
+            Reading::Depends => 2,
+        }
+    }
+}
 
 // Why a sheet is not read.
 #[derive(Clone, Copy, Debug, PartialEq, Eq)]
@@ -26,11 +46,11 @@ impl Refusal for ReadFault {
 
 // The result of an answer. A function for each operation that has a result, and not one over `Into`: the project wants each wrong definition refused by
 // the promise of its own crate, and this is that of `read_result`.
-pub fn read_result(r: Result<bool, ReadFault>) -> u32
+pub fn read_result(r: Result<Reading, ReadFault>) -> u32
     ensures { result ≡ spec.read_result r }
 {
     match r {
-        Ok(satisfies) => u32::from(satisfies),
+        Ok(reading) => u32::from(reading),
         Err(_) => 0,
     }
 }

@@ -1,8 +1,9 @@
-// Reading a sheet against a handle.
+// Reading a sheet, on which some fields may not be counted, against a handle.
 #![tactic(auto)]
 
 mod answer;
+mod counting;
 mod reading;
 
-pub use answer::{ReadFault, read_result};
-pub use reading::{read, read_sound, read_within};
+pub use answer::{ReadFault, Reading, read_result};
+pub use reading::{read, read_within};

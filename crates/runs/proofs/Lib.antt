@@ -1,3 +1,2 @@
-pub mod ReadTrue
 pub mod RunInOrder
 pub mod RunFromRaw

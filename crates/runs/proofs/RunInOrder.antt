@@ -1,6 +1,6 @@
 -- For either order, and any store that an opening in it and any calls have led to: the opening leaves a sound store that names its order, no call changes
--- the number of fields or the order, and every handle in the ledger keeps the finished diagram of its rule. So what verdict and example say of a handle
--- in a sound store they say of the rule.
+-- the number of fields or the order, and every handle in the ledger keeps the finished diagram of its rule. So what verdict, reading and example
+-- say of a handle in a sound store they say of the rule.
 use Prim.Native.Nat.{ℕ, ◌+◌}
 use mathlib.Core.Path.{◌≡◌, refl, sym, ap, ◌∙◌}
 use mathlib.Core.Logic.{inl, inr}
@@ -14,6 +14,8 @@ use Rattle.examples.specs.ExampleAnswers.{ExampleAnswers}
 use Rattle.operations.specs.Handles.{Call, Pair, Books, opened_books, run, In}
 use Rattle.operations.specs.Kept.{Kept}
 use Rattle.operations.specs.Later.{Later}
+use Rattle.reading.specs.Read.{read_sheet}
+use Rattle.reading.specs.ReadExactly.{ReadExactly}
 use Rattle.reading.specs.Sheet.{sheet_counts}
 use Rattle.runs.specs.InOrder.{InOrder}
 use Rattle.runs.specs.SheetOrNone.{SheetOrNone}
@@ -34,10 +36,11 @@ use Rattle.examples.proofs.ExampleFirst.{example_answers}
 use Rattle.operations.proofs.HandleLaw.{opened_kept, kept_law, run_kept}
 use Rattle.operations.proofs.RunLater.{run_later}
 use Rattle.operations.proofs.StandingDiagrams.{stands_means}
+use Rattle.reading.proofs.ReadMeans.{read_exactly}
+use Rattle.reading.proofs.SameReading.{exactly_alike}
 use Rattle.store.proofs.OpenedWords.{opened_fields, opened_order}
 use Rattle.store.proofs.SoundFacts.{sound_from}
 use Rattle.verdicts.proofs.VerdictMeans.{verdict_says}
-use Rattle.runs.proofs.ReadTrue.{reads_true}
 
 -- what a verdict says of a meaning it says of one that is alike in truth
 says_alike : (d : VerdictAnswer) {means others : Valuation → Bool} → ((v : Valuation) → means v ≡ others v) → VerdictSays d means → VerdictSays d others
@@ -78,7 +81,7 @@ module _ (limits : Limits) (order : ListOrder) (n : ℕ) (list s : List ℕ) (e 
       → VerdictSays (verdict limits books.words handle) (meaning books.words handle)
   verdict_in_order handle u = verdict_says limits books.words handle is (ltb-true handle (used books.words + leaves) u)
 
-  pub example_in_order : (handle : ℕ) (out : List ℕ) → ExampleAnswers limits books.words handle out (example limits books.words handle out)
+  pub example_in_order : (handle : ℕ) (out : List ℕ) → ExampleAnswers books.words handle out (example limits books.words handle out)
   example_in_order = example_answers limits books.words is
 
   -- with n words lent, a handle of the store's gets a sheet or 52
@@ -101,6 +104,12 @@ module _ (limits : Limits) (order : ListOrder) (n : ℕ) (list s : List ℕ) (e 
     pub verdict_of_rule : VerdictSays (verdict limits books.words p.handle) p.rule
     verdict_of_rule = says_alike (verdict limits books.words p.handle) (run_in_order.means p i) (verdict_in_order p.handle has_handle)
 
+    -- each result exactly if it is right of the rule under the sheet's fillings
+    pub read_of_rule : (sheet : List ℕ) → length sheet ≡ n → ReadExactly sheet p.rule (read_sheet limits books.words p.handle sheet)
+    read_of_rule sheet l =
+        exactly_alike sheet (meaning books.words p.handle) p.rule (λ v _. run_in_order.means p i v)
+        (read_exactly limits books.words is p.handle has_handle sheet (l ∙ sym run_in_order.fields))
+
     pub example_of_rule : (out : List ℕ) → length out ≡ n → RuleExample n p.rule (example limits books.words p.handle out)
     example_of_rule out l =
         let sheet = (example limits books.words p.handle out).words in
@@ -109,12 +118,11 @@ module _ (limits : Limits) (order : ListOrder) (n : ℕ) (list s : List ℕ) (e 
         elim (example_answered p.handle out has_handle l) [
           | inl written ↦
               let f = answers.written written in
-              let r = reads_true limits books.words p.handle sheet f.satisfies in
               inl (
                 written,
                 record {
-                  right_length = r.0 ∙ run_in_order.fields;
-                  satisfies = sym (means (sheet_counts sheet)) ∙ r.1;
+                  right_length = f.right_length ∙ run_in_order.fields;
+                  satisfies = sym (means (sheet_counts sheet)) ∙ f.satisfies;
                   first = λ other k before. sym (means (sheet_counts other)) ∙ f.first other (k ∙ sym run_in_order.fields) before;
                 },
               )

@@ -23,6 +23,10 @@ pub count_zero : (v : Valuation) (f : Field) → f.0 ≡ 0 → count v f ≡ 0
 unfolding count
 count_zero v f e = simp (eq-eqb _ _ e)
 
+pub count_field : (v : Valuation) (f : Field) → f.0 ≢ 0 → count v f ≡ v f
+unfolding count
+count_field v f n = simp (ne_eqb _ _ n)
+
 module _ (v : Valuation) (e : Equation) where
   pub turned_truth : truth v (turned e) ≡ truth v e
   turned_truth = same_test (value v e.right) (value v e.left) (value v e.left) (value v e.right) sym sym

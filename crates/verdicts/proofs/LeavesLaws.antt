@@ -15,6 +15,7 @@ use Rattle.store.specs.declared.entries.Entry.{Entry}
 use Rattle.store.specs.Layout.{question, entry, leaves}
 use Rattle.store.specs.Tree.{node, tree}
 use Rattle.terms.specs.declared.term.Equation.{Equation}
+use Rattle.terms.specs.Limits.{most_count}
 use Rattle.verdicts.specs.declared.leaves.Leaves.{Leaves}
 use Rattle.verdicts.specs.Leaves.{either, reached}
 use Rattle.verdicts.specs.Needs.{CanDescend}
@@ -31,12 +32,12 @@ reach_leaf handle h = elim (ℕ_discrete handle 0) [
 either_full : (l m : Leaves) → l.never ≡ true → l.always ≡ true → l ≡ either l m
 either_full l m n t = λ j. record { never = (n ∙ sym (ap (λ b. b || m.never) n)) j; always = (t ∙ sym (ap (λ b. b || m.always) t)) j }
 
-pub leaf_reached : {s : List ℕ} (handle : ℕ) {f : Facts} → CanDescend s handle f → handle < leaves
+pub leaf_reached : {s : List ℕ} (handle : ℕ) {f : Facts} → CanDescend most_count s handle f → handle < leaves
     → record { never = eqb handle 0; always = eqb handle 1 } ≡ reached (question s) (tree s handle) (state f)
 unfolding reached
 leaf_reached {s} handle w h = rw (tree_leaf s handle h) (ap (λ b. record { never = b; always = eqb handle 1 }) (reach_leaf handle h))
 
-module _ {s : List ℕ} {handle : ℕ} {f : Facts} (w : CanDescend s handle f) (h : leaves ≤ handle) where
+module _ {s : List ℕ} {handle : ℕ} {f : Facts} (w : CanDescend most_count s handle f) (h : leaves ≤ handle) where
   abbrev i : ℕ
   i = handle - leaves
 

@@ -1,5 +1,5 @@
 -- The leaves that choices of counts fitting a state reach in a diagram, by the decision at each of its questions.
-use Rattle.std.specs.Prelude.{ℕ, not, ◌||◌}
+use Rattle.std.specs.Prelude.{ℕ, cond, not, ◌||◌}
 use Rattle.facts.specs.declared.decision.Decision.TheVariants.{Always, Never, Open}
 use Rattle.facts.specs.State.{State, no_to, yes_to, decide}
 use Rattle.store.specs.Tree.{Tree, leaf, node}
@@ -17,3 +17,7 @@ reached ask (node k y n) st =
       | Never ↦ reached ask n st
       | Open ↦ either (reached ask y (yes_to st (ask k))) (reached ask n (no_to st (ask k)))
     ]
+
+-- what is answered by the leaves that are reached, of which at least one is: for never alone, for always alone, for both
+abbrev pub by_leaves : {A : Type 0} → A → A → A → Leaves → A
+by_leaves never always both l = cond l.always (cond l.never both always) never

@@ -12,21 +12,21 @@ use Rattle.terms.specs.Refusal.{answer_number}
 use Rattle.verdicts.specs.declared.answer.VerdictFault.{VerdictFault}
 use Rattle.verdicts.specs.declared.answer.VerdictFault.TheVariants.{NotSound, NoHandle}
 use Rattle.verdicts.specs.declared.leaves.Leaves.{Leaves}
-use Rattle.verdicts.specs.Leaves.{reached}
+use Rattle.verdicts.specs.Leaves.{reached, by_leaves}
 
 -- What verdict answers: whether no, every, or some but not every choice of counts satisfies the handle, or why it was not asked.
 abbrev pub VerdictAnswer : Type 0
 VerdictAnswer = Result Verdict VerdictFault
 
--- at least one of the two leaves is reached
-abbrev pub by_leaves : Leaves → Verdict
-by_leaves l = cond l.always (cond l.never Sometimes Always) Never
+-- "0 never, 1 always, 2 sometimes, by meaning"
+abbrev pub verdict_by : Leaves → Verdict
+verdict_by = by_leaves Never Always Sometimes
 
 -- "22, 41"
 unfoldable pub verdict : Limits → List ℕ → ℕ → VerdictAnswer
 verdict limits s handle =
     cond (sound limits s)
-    (cond (is_handle s handle) (Ok (by_leaves (reached (question s) (tree s handle) start))) (Err NoHandle))
+    (cond (is_handle s handle) (Ok (verdict_by (reached (question s) (tree s handle) start))) (Err NoHandle))
     (Err NotSound)
 
 abbrev pub verdict_fault_number : VerdictFault → ℕ

@@ -5,22 +5,11 @@ ghost use Rattle.terms.specs.Needs.{FitLimits};
 ghost use Rattle.verdicts.specs.Verdict as spec;
 
 use crate::answer::VerdictFault;
-use crate::leaves::{Leaves, leaves_from};
+use crate::leaves::leaves_from;
 use facts::no_facts;
 use soundness::is_sound;
 use store::{Verdict, has_handle, wide};
 use terms::{Limits, limits_of_store};
-
-// The verdict by the leaves that are reached.
-fn by_leaves(l: Leaves) -> Verdict
-    ensures { result ≡ spec.by_leaves l }
-{
-    match (l.always, l.never) {
-        (true, true) => Verdict::Sometimes,
-        (true, false) => Verdict::Always,
-        (false, _) => Verdict::Never,
-    }
-}
 
 // The verdict of a handle within limits.
 #[tactic(auto, unfolding(crate::specs::Verdict::verdict))]
@@ -35,7 +24,8 @@ pub fn verdict_within(limits: Limits, s: &[u32], handle: u32) -> Result<Verdict,
     if !has_handle(s, handle) {
         return Err(VerdictFault::NoHandle);
     }
-    Ok(by_leaves(leaves_from(s, wide(handle), no_facts())))
+    let leaves = leaves_from(s, wide(handle), no_facts());
+    Ok(leaves.pick(Verdict::Never, Verdict::Always, Verdict::Sometimes))
 }
 
 // The verdict of a handle.

@@ -3,6 +3,7 @@ ghost use Rattle.std.specs.Prelude.{◌≡◌};
 ghost use Rattle.facts.specs.Record as facts;
 ghost use Rattle.store.specs.Layout as layout;
 ghost use Rattle.store.specs.Tree as tree;
+ghost use Rattle.terms.specs.Limits.{most_count};
 ghost use Rattle.verdicts.specs.Leaves as spec;
 ghost use Rattle.verdicts.specs.Needs.{CanDescend};
 
@@ -14,6 +15,19 @@ use store::{LEAVES, entry_of, question_at, wide};
 pub struct Leaves {
     pub never: bool,
     pub always: bool,
+}
+
+impl Leaves {
+    // One of three, by the leaves that are reached, of which at least one is.
+    pub fn pick<T: Copy>(self, never: T, always: T, both: T) -> T
+        ensures { result ≡ spec.by_leaves never always both self }
+    {
+        match (self.always, self.never) {
+            (true, true) => both,
+            (true, false) => always,
+            (false, _) => never,
+        }
+    }
 }
 
 // What either of two parts reaches.
@@ -28,7 +42,7 @@ fn either(a: Leaves, b: Leaves) -> Leaves
 
 // The leaves that sheets fitting the facts reach from a handle. Once both are reached, nothing is left to find.
 pub fn leaves_from(s: &[u32], handle: usize, f: Facts) -> Leaves
-    requires { CanDescend s.now handle f }
+    requires { CanDescend most_count s.now handle f }
     ensures { result ≡ spec.reached (layout.question s.now) (tree.tree s.now handle) (facts.state f) }
 {
     if handle < LEAVES {

@@ -121,7 +121,7 @@ impl Call {
     }
 
     /// The counts lent beside the store.
-    fn sheet(&self) -> &[u16] {
+    pub(crate) fn sheet(&self) -> &[u16] {
         match self {
             Call::Example { sheet, .. } | Call::Read { sheet, .. } => sheet,
             _ => &[],

@@ -2,7 +2,7 @@
 
 use std::collections::BTreeMap;
 
-use independent::{largest_count, leaves, refusal, Answer, Fast, Limits, Operations, Paths, Plain, Question};
+use independent::{fillings, largest_count, leaves, refusal, Answer, Fast, Limits, Operations, Paths, Plain, Question};
 use independent::{SimplifyAnswer, Term, HEADING, INSTITUTE, LOGGER};
 
 use crate::calls::{Call, Outcome};
@@ -55,9 +55,27 @@ pub mod occasion {
     pub const RAW_NOT_SIMPLIFIED: &str = "an accepted raw list that open refuses with 15";
     pub const RAW_NOT_ASCENDING: &str = "an accepted raw list that open refuses with 16";
     pub const RAW_ORDERS_DIFFER: &str = "an accepted raw list that leaves another list in the other order";
+    pub const NO_BLANKS: &str = "a sheet without blanks that is read";
+    pub const ALL_BLANK: &str = "a sheet of blanks only that is read";
+    pub const BLANKS_MADE: [&str; 3] = [
+        "blanks and counts read as 0, in a store that operations have made",
+        "blanks and counts read as 1, in a store that operations have made",
+        "blanks and counts read as 2, in a store that operations have made",
+    ];
+    pub const BLANKS_BY_HAND: [&str; 3] = [
+        "blanks and counts read as 0, in a store written by hand",
+        "blanks and counts read as 1, in a store written by hand",
+        "blanks and counts read as 2, in a store written by hand",
+    ];
+    pub const BLANKS_AT_THE_EDGE: [&str; 3] = [
+        "blanks beside 65,533 or 65,534 read as 0",
+        "blanks beside 65,533 or 65,534 read as 1",
+        "blanks beside 65,533 or 65,534 read as 2",
+    ];
+    pub const VERDICT_KEPT_OUT: &str = "blanks and counts read as 0 or 1, of a rule that is sometimes true";
 
     /// Every occasion.
-    pub const ALL: [&str; 35] = [
+    pub const ALL: [&str; 47] = [
         LIST_IN_ONE_ORDER,
         LIST_IN_BOTH_ORDERS,
         FIELDS_BEFORE_ORDER,
@@ -93,6 +111,18 @@ pub mod occasion {
         RAW_NOT_SIMPLIFIED,
         RAW_NOT_ASCENDING,
         RAW_ORDERS_DIFFER,
+        NO_BLANKS,
+        ALL_BLANK,
+        BLANKS_MADE[0],
+        BLANKS_MADE[1],
+        BLANKS_MADE[2],
+        BLANKS_BY_HAND[0],
+        BLANKS_BY_HAND[1],
+        BLANKS_BY_HAND[2],
+        BLANKS_AT_THE_EDGE[0],
+        BLANKS_AT_THE_EDGE[1],
+        BLANKS_AT_THE_EDGE[2],
+        VERDICT_KEPT_OUT,
     ];
 }
 
@@ -396,8 +426,14 @@ impl Affordable {
     const BOTH: Affordable = Affordable { bounds: true, counting: true, trees: false };
 }
 
+/// Whether all fillings of a sheet's blanks are tried in some milliseconds: those of one blank are, beside the largest count too.
+pub fn fillings_are_affordable(questions: &[Question], sheet: &[u16]) -> bool {
+    fillings(questions, sheet).is_some_and(|fillings| fillings <= 70_000)
+}
+
 /// Which plain implementations can make a call in some milliseconds. They compare every two entries of a store or table. All but the
-/// openings, read and write back look at every possible combination of answers, and the check of another tool's diagrams at every path.
+/// openings and write back look at every possible combination of answers, or read at every filling, and the check of another tool's diagrams
+/// at every path.
 fn affordable(call: &Call, store: &[u32]) -> Affordable {
     match call {
         Call::Open { .. } | Call::OpenRaw { .. } | Call::LoggerOpen { .. } => return Affordable::BOTH,
@@ -411,6 +447,11 @@ fn affordable(call: &Call, store: &[u32]) -> Affordable {
         // Such a store isn't sound, which they find at once.
         None => Affordable::BOTH,
         Some(_) if store[2] > 500 => Affordable::default(),
+        Some((n, questions)) if matches!(call, Call::Read { .. }) => Affordable {
+            bounds: bounds_are_affordable(n, &questions),
+            counting: fillings_are_affordable(&questions, call.sheet()),
+            trees: false,
+        },
         Some((n, questions)) => Affordable {
             bounds: bounds_are_affordable(n, &questions),
             counting: counting_is_affordable(n, &questions),

@@ -3,7 +3,7 @@
 use std::collections::HashSet;
 use std::ops::Range;
 
-use independent::{Term, FIELDS_FIRST, FIRST_ENTRY, HEADING, LOGGER, ORDERS};
+use independent::{Term, BLANK, FIELDS_FIRST, FIRST_ENTRY, HEADING, LOGGER, ORDERS};
 use independent::{MOST_FIELDS, MOST_QUESTIONS, MOST_ROWS, MOST_STEPS};
 
 use crate::calls::Call;
@@ -422,8 +422,28 @@ pub fn handle(random: &mut Random, used: u32, known: &[u32]) -> u32 {
     }
 }
 
-/// A sheet to read: mostly of the right length, with counts at which the answers change.
+/// The largest count on a sheet.
+const MOST_COUNT: u32 = BLANK as u32 - 1;
+
+/// A sheet to read: mostly of the right length, with counts at which the answers change, and with no, some or only blanks.
 pub fn sheet(random: &mut Random, survey: &Survey) -> Vec<u16> {
+    let mut sheet = counted_sheet(random, survey);
+    match random.below(5) {
+        0 | 1 => {}
+        2 => sheet.fill(BLANK),
+        _ => {
+            for count in &mut sheet {
+                if random.one_in(3) {
+                    *count = BLANK;
+                }
+            }
+        }
+    }
+    sheet
+}
+
+/// A sheet without blanks.
+fn counted_sheet(random: &mut Random, survey: &Survey) -> Vec<u16> {
     let length = match random.below(12) {
         0 => random.below(20),
         1 => survey.n + 1,
@@ -435,13 +455,13 @@ pub fn sheet(random: &mut Random, survey: &Survey) -> Vec<u16> {
     let mut counts = vec![0_u32];
     for _ in 0..length {
         let count = match random.below(40) {
-            0 => 65_535 - random.below(3),
+            0 => MOST_COUNT - random.below(2),
             1..=20 if !survey.list.is_empty() => {
                 let (near, gap) = (*random.pick(&counts), random.pick(&survey.list) / 32);
                 if random.one_in(3) {
                     near.saturating_sub(gap)
                 } else {
-                    (near + gap).min(65_535)
+                    (near + gap).min(MOST_COUNT)
                 }
             }
             _ => random.below(largest + 1),

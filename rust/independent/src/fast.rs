@@ -4,7 +4,7 @@ use std::collections::HashMap;
 
 use crate::refusal::*;
 use crate::{normal_form, Answer, Limits, Operations, SimplifyAnswer, Term, INSTITUTE, LOGGER};
-use crate::{ALWAYS, FIELDS_FIRST, FIRST_ENTRY, HEADING, NEVER, ORDERS};
+use crate::{ALWAYS, BLANK, FIELDS_FIRST, FIRST_ENTRY, HEADING, NEVER, ORDERS};
 use crate::{MOST_EQUATIONS, MOST_FIELDS, MOST_QUESTIONS, MOST_ROWS};
 
 /// The operations. They keep nothing between calls: all that is known stands in the lent store.
@@ -723,13 +723,18 @@ fn build(limits: &Limits, store: &mut [u32], rule: &[u32]) -> Result<u32, u32> {
 fn verdict(store: &[u32], a: u32) -> Result<u32, u32> {
     let contents = Contents::of(store)?;
     contents.check_handles(&[a])?;
-    let mut search = LeafSearch { contents: &contents, noes: Vec::new(), reached: [false, false] };
-    search.search(a, &Bounds::new(contents.n));
-    Ok(match search.reached {
+    Ok(leaves_reached(&contents, a, &Bounds::new(contents.n)))
+}
+
+/// 0 if some counts within the bounds reach the leaf never and none the leaf always, 1 the other way round, 2 if both are reached.
+fn leaves_reached(contents: &Contents, a: u32, bounds: &Bounds) -> u32 {
+    let mut search = LeafSearch { contents, noes: Vec::new(), reached: [false, false] };
+    search.search(a, bounds);
+    match search.reached {
         [_, false] => 0,
         [false, true] => 1,
         [true, true] => 2,
-    })
+    }
 }
 
 fn example(store: &[u32], a: u32, sheet: &mut [u16]) -> Result<u32, u32> {
@@ -753,11 +758,22 @@ fn read(store: &[u32], a: u32, sheet: &[u16]) -> Result<u32, u32> {
     if sheet.len() != contents.n as usize {
         return Err(SLICE_LENGTH);
     }
+    if sheet.contains(&BLANK) {
+        return Ok(leaves_reached(&contents, a, &counted_bounds(contents.n, sheet)));
+    }
     let mut counts = [0; SIZE];
     for (count, given) in counts[1..].iter_mut().zip(sheet) {
         *count = i32::from(*given);
     }
     Ok(u32::from(contents.holds(a, &counts)))
+}
+
+/// What the counts on a sheet say.
+fn counted_bounds(n: u32, sheet: &[u16]) -> Bounds {
+    let counted = (1..).zip(sheet).filter(|(_, count)| **count != BLANK);
+    counted.fold(Bounds::new(n), |bounds, (field, count)| {
+        bounds.with(Question { left: field, right: 0, gap: i32::from(*count) })
+    })
 }
 
 fn write_back(store: &[u32], a: u32, rule: &mut [u32]) -> Result<u32, u32> {

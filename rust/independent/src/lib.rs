@@ -10,10 +10,14 @@
 //! The library inserts the questions of a raw list one by one where they belong. [`Plain`] makes a set of them, and sorts it by the numbers
 //! that an order compares; [`Fast`] sorts them with their doubles, each beside these numbers, and drops what is equal to the one before.
 //!
+//! The library reads a sheet with blanks by the facts that its counts are. [`Plain`] tries all fillings of the blanks up to a bound, or asks of
+//! each possible combination of answers whether the counts on the sheet go together with it by their bounds; [`Fast`] searches the diagram from
+//! the bounds that the counts give.
+//!
 //! Tables of diagrams are checked by [`Plain`] as trees, with [`Paths`] to look for a sheet on every path, and by [`Fast`] with the set of
 //! entries below each handle.
 //!
-//! The two share the limits, the numbers of orders and refusals and the term words below, and nothing else.
+//! The two share the limits, the numbers of orders, refusals and blanks and the term words below, and nothing else.
 
 mod fast;
 mod normal_form;
@@ -22,7 +26,7 @@ mod trees;
 
 pub use fast::Fast;
 pub use normal_form::{rules_that_apply, NormalFormRule, NORMAL_FORM_RULES};
-pub use plain::{largest_count, Plain, Question, Truths};
+pub use plain::{fillings, largest_count, Plain, Question, Truths};
 pub use plain::{possible_by_bounds, possible_by_counting, sheets_by_bounds, sheets_by_counting};
 pub use trees::{leaves, Path, Paths};
 
@@ -53,6 +57,9 @@ pub const INSTITUTE: Limits =
     Limits { fields: MOST_FIELDS, steps: MOST_STEPS, questions: MOST_QUESTIONS, entries: MOST_ENTRIES };
 /// The limits of the deck logger's book, document 02's (xi), which leaves the steps as they are.
 pub const LOGGER: Limits = Limits { fields: 6, steps: MOST_STEPS, questions: 8, entries: 200 };
+
+/// What stands on a sheet in a field that was not counted.
+pub const BLANK: u16 = 65_535;
 
 /// The largest number of rows of a rule table.
 pub const MOST_ROWS: usize = 256;

@@ -6,7 +6,7 @@ use std::rc::Rc;
 
 use crate::refusal::*;
 use crate::{trees, Answer, Limits, Operations, SimplifyAnswer, Term, INSTITUTE, LOGGER};
-use crate::{ALWAYS, FIELDS_FIRST, FIRST_ENTRY, HEADING, LEFT_FIRST, MOST_EQUATIONS, MOST_ROWS, NEVER};
+use crate::{ALWAYS, BLANK, FIELDS_FIRST, FIRST_ENTRY, HEADING, LEFT_FIRST, MOST_EQUATIONS, MOST_ROWS, NEVER};
 
 /// The answers to all questions of a list: bit i is the truth of question i, counted from 0.
 pub type Truths = u32;
@@ -77,8 +77,12 @@ fn gap(question: &Question) -> i64 {
 /// A question across that place was false, its sides being more than K apart, and still is for the same reason; any other
 /// question compares counts that moved alike. So all answers stay, and now the largest count is at most n steps of K + 1.
 pub fn largest_count(n: u32, questions: &[Question]) -> u64 {
-    let largest_gap = questions.iter().map(|q| gap(q).unsigned_abs()).max().unwrap_or(0);
-    u64::from(n) * (largest_gap + 1)
+    u64::from(n) * (largest_gap(questions) + 1)
+}
+
+/// K: the largest gap without its sign, 0 for an empty list.
+fn largest_gap(questions: &[Question]) -> u64 {
+    questions.iter().map(|q| gap(q).unsigned_abs()).max().unwrap_or(0)
 }
 
 /// For each possible combination of answers a sheet that gives it, found by trying all sheets of the box.
@@ -201,7 +205,7 @@ fn least_sheet(n: u32, mut facts: Vec<Fact>) -> Vec<u64> {
         let most = difference_bounds(n, &facts).expect("some sheet fits");
         let mut count = -most[0][field as usize];
         loop {
-            facts.push(((Term { field, steps: 0 }, Term { field: 0, steps: count as u32 }), true));
+            facts.push(counts_fact(field, count as u64));
             if fits(n, &facts) {
                 break;
             }
@@ -603,13 +607,32 @@ impl Plain {
         let contents = contents(&INSTITUTE, store)?;
         contents.check_handle(a)?;
         let possible = self.possible(contents.n, &contents.questions);
-        let sometimes_true = possible.iter().any(|truths| contents.holds(a, *truths));
-        let sometimes_false = possible.iter().any(|truths| !contents.holds(a, *truths));
-        Ok(match (sometimes_true, sometimes_false) {
-            (false, _) => 0,
-            (true, false) => 1,
-            (true, true) => 2,
+        Ok(none_all_or_some(possible.iter().map(|truths| contents.holds(a, *truths))))
+    }
+
+    fn try_read(&self, store: &[u32], a: u32, sheet: &[u16]) -> Result<u32, u32> {
+        let contents = contents(&INSTITUTE, store)?;
+        contents.check_handle(a)?;
+        if sheet.len() != contents.n as usize {
+            return Err(SLICE_LENGTH);
+        }
+        let fields: Vec<Option<u64>> = sheet.iter().map(counted).collect();
+        Ok(match self.method {
+            Method::Bounds => self.read_by_bounds(&contents, a, &fields),
+            Method::Counting => read_by_counting(&contents, a, &fields),
         })
+    }
+
+    /// By the combinations of answers that go together with the counts on the sheet.
+    fn read_by_bounds(&self, contents: &Contents, a: u32, fields: &[Option<u64>]) -> u32 {
+        let counts: Vec<Fact> =
+            (1..).zip(fields).filter_map(|(field, count)| Some(counts_fact(field, (*count)?))).collect();
+        let possible = self.possible(contents.n, &contents.questions);
+        let fitting = possible.iter().filter(|truths| {
+            let facts = [facts_of(&contents.questions, **truths), counts.clone()].concat();
+            fits(contents.n, &facts)
+        });
+        none_all_or_some(fitting.map(|truths| contents.holds(a, *truths)))
     }
 
     fn try_example(&self, store: &[u32], a: u32, sheet: &mut [u16]) -> Result<u32, u32> {
@@ -651,14 +674,61 @@ fn example_by_counting(contents: &Contents, a: u32) -> Option<Vec<u64>> {
     None
 }
 
-fn read(store: &[u32], a: u32, sheet: &[u16]) -> Result<u32, u32> {
-    let contents = contents(&INSTITUTE, store)?;
-    contents.check_handle(a)?;
-    if sheet.len() != contents.n as usize {
-        return Err(SLICE_LENGTH);
+/// 0 if all are false, 1 if all are true, else 2; there must be one.
+fn none_all_or_some(truths: impl Iterator<Item = bool>) -> u32 {
+    let met: BTreeSet<bool> = truths.collect();
+    match (met.contains(&true), met.contains(&false)) {
+        (false, _) => 0,
+        (true, false) => 1,
+        (true, true) => 2,
     }
-    let counts: Vec<u64> = sheet.iter().map(|count| u64::from(*count)).collect();
-    Ok(u32::from(contents.holds(a, truths_of(&contents.questions, &counts))))
+}
+
+/// A field's count, if it was counted.
+fn counted(word: &u16) -> Option<u64> {
+    (*word != BLANK).then_some(u64::from(*word))
+}
+
+/// That a field counts so much.
+fn counts_fact(field: u32, count: u64) -> Fact {
+    ((Term { field, steps: 0 }, Term { field: 0, steps: count as u32 }), true)
+}
+
+/// The largest number that has to be tried in a blank: M + b x (K + 1), M being the largest count on the sheet, 0 if none was counted, b the
+/// number of blanks, and K the largest gap without its sign.
+///
+/// That larger numbers bring nothing new is seen as for [`largest_count`]. Take any filling, and put zero, the counts on the sheet and the
+/// numbers in the blanks in ascending order. Above M stand numbers in blanks only, so these may be lowered: where two neighbours, the upper one
+/// above M, are more than K + 1 apart, lower the upper one and all above it until they are K + 1 apart. All answers stay, the counts on
+/// the sheet too, and now the largest number is at most b steps of K + 1 above M.
+fn largest_filling(questions: &[Question], fields: &[Option<u64>]) -> u64 {
+    let largest_count = fields.iter().flatten().max().unwrap_or(&0);
+    largest_count + blanks(fields) * (largest_gap(questions) + 1)
+}
+
+fn blanks(fields: &[Option<u64>]) -> u64 {
+    fields.iter().filter(|field| field.is_none()).count() as u64
+}
+
+/// How many fillings of a sheet have to be tried, if there is a number for it.
+pub fn fillings(questions: &[Question], sheet: &[u16]) -> Option<u64> {
+    let fields: Vec<Option<u64>> = sheet.iter().map(counted).collect();
+    (largest_filling(questions, &fields) + 1).checked_pow(blanks(&fields) as u32)
+}
+
+/// By trying all fillings up to [`largest_filling`].
+fn read_by_counting(contents: &Contents, a: u32, fields: &[Option<u64>]) -> u32 {
+    let most = largest_filling(&contents.questions, fields);
+    let mut filling = Some(vec![0; blanks(fields) as usize]);
+    let mut met = BTreeSet::new();
+    while let Some(numbers) = filling {
+        let mut left = numbers.iter().copied();
+        let counts: Vec<u64> =
+            fields.iter().map(|field| field.or_else(|| left.next()).expect("one for each")).collect();
+        met.insert(contents.holds(a, truths_of(&contents.questions, &counts)));
+        filling = next_sheet(numbers, most);
+    }
+    none_all_or_some(met.into_iter())
 }
 
 /// The handles of the entries reachable from a handle, ascending.
@@ -763,7 +833,7 @@ impl Operations for Plain {
     }
 
     fn read(&self, store: &[u32], a: u32, sheet: &[u16]) -> Answer {
-        read(store, a, sheet).into()
+        self.try_read(store, a, sheet).into()
     }
 
     fn write_back(&self, store: &[u32], a: u32, rule: &mut [u32]) -> Answer {

@@ -1,6 +1,6 @@
 //! Two rules of a whale survey, and what the library says of them.
 
-use sheet::{Field, Order, Rule, Store, ZERO};
+use sheet::{Count, Field, Order, Rule, Store, ZERO};
 
 fn main() -> Result<(), sheet::Refusal> {
     let (adults, calves, recount) = (Field(1), Field(2), Field(3));
@@ -22,7 +22,12 @@ fn main() -> Result<(), sheet::Refusal> {
 
     let broken = store.negate(both)?;
     println!("the first sheet that breaks a rule: {:?}", store.example(broken)?);
-    println!("4 adults, 1 calf, recount 6: {}", store.read(both, &[4, 1, 6])?);
+
+    // Sheets, the last two of them with a field that was not counted.
+    let count = |number: u8| Some(Count::from(number));
+    println!("4 adults, 1 calf, recount 6: {:?}", store.read(both, &[count(4), count(1), count(6)])?);
+    println!("4 adults, recount 5: {:?}", store.read(both, &[count(4), None, count(5)])?);
+    println!("1 calf, recount 1: {:?}", store.read(both, &[None, count(1), count(1)])?);
 
     let refusal = store.build(&calves.equals(ZERO + 1_100).into()).unwrap_err();
     println!("refused with {}: {refusal}", refusal.number());

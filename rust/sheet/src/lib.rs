@@ -1,6 +1,6 @@
 //! Rules over counts as decision diagrams with one handle per meaning.
 //!
-//! A sheet has up to 16 fields, each with a count. A rule is a Boolean combination of equations between fields, numbers and fields plus
+//! A sheet has up to 16 fields, each with a [count](Count) or without one. A rule is a Boolean combination of equations between fields, numbers and fields plus
 //! steps. A [`Store`] is opened for a list of questions, which stand in one of two [orders](Order), or for equations
 //! [as they come](Store::open_raw), and holds the diagrams of rules over these questions: two rules have the same [`Handle`] exactly if
 //! they agree on every sheet.
@@ -10,7 +10,7 @@
 //! calls, so stores can be used from several threads. A call takes less than 65,536 bytes of stack (measured: at most 49,400).
 //!
 //! ```
-//! use sheet::{Field, Order, Rule, Store, Verdict, ZERO};
+//! use sheet::{Count, Field, Order, Reading, Rule, Store, Verdict, ZERO};
 //!
 //! // Three counts of the same group: a first count, a second one, and a recount.
 //! let (first, second, recount) = (Field(1), Field(2), Field(3));
@@ -30,7 +30,10 @@
 //! // The least sheet on which the counts don't all agree, the first field compared first.
 //! let differ = store.negate(agree)?;
 //! assert_eq!(store.example(differ)?, [0, 0, 1]);
-//! assert!(store.read(differ, &[4, 5, 4])?);
+//! assert_eq!(store.read(differ, &[4, 5, 4].map(Count::from_word))?, Reading::Satisfies);
+//!
+//! // With the second count missing, they may all agree or not.
+//! assert_eq!(store.read(differ, &[Some(Count::from(4)), None, Some(Count::from(4))])?, Reading::Depends);
 //!
 //! // A question that the store wasn't opened for is refused.
 //! let refusal = store.build(&Rule::from(first.equals(ZERO + 2))).unwrap_err();
@@ -43,6 +46,7 @@
 
 #![warn(missing_docs)]
 
+mod count;
 mod limits;
 mod logger;
 mod normal_form;
@@ -53,11 +57,12 @@ mod store;
 mod term;
 pub mod words;
 
+pub use count::{Count, NotACount};
 pub use limits::Limits;
 pub use logger::LoggerStore;
 pub use normal_form::{DiagramEntry, DiagramTable};
 pub use order::Order;
 pub use refusal::Refusal;
 pub use rule::{Row, RowNumber, Rule, RuleTable};
-pub use store::{Entry, Handle, Store, Verdict};
+pub use store::{Entry, Handle, Reading, Store, Verdict};
 pub use term::{Equation, Field, Question, Simplified, Steps, Term, ZERO};

@@ -1,6 +1,6 @@
 use crate::refusal::outcome;
 use crate::words::{self, Answer};
-use crate::{Equation, Limits, Order, Question, Refusal, Rule, RuleTable};
+use crate::{Count, Equation, Limits, Order, Question, Refusal, Rule, RuleTable};
 
 /// A diagram in a store or in a [`DiagramTable`](crate::DiagramTable). It means something only in the one that gave it.
 #[derive(Clone, Copy, Debug, PartialEq, Eq, Hash, PartialOrd, Ord)]
@@ -41,6 +41,28 @@ impl Verdict {
             0 => Verdict::Never,
             1 => Verdict::Always,
             _ => Verdict::Sometimes,
+        }
+    }
+}
+
+/// What a sheet says of a rule. Where fields were not counted, each of them may have any count, by itself.
+#[derive(Clone, Copy, Debug, PartialEq, Eq)]
+pub enum Reading {
+    /// It breaks the rule, whatever stands in the fields that were not counted.
+    Fails,
+    /// It satisfies the rule, whatever stands in them.
+    Satisfies,
+    /// It depends on what stands in them: some counts satisfy the rule, and some break it.
+    Depends,
+}
+
+impl Reading {
+    /// The reading that a result stands for.
+    fn from_result(result: u32) -> Reading {
+        match result {
+            0 => Reading::Fails,
+            1 => Reading::Satisfies,
+            _ => Reading::Depends,
         }
     }
 }
@@ -269,16 +291,46 @@ impl Store {
         result(words::verdict(&self.words, a.0)).map(Verdict::from_result)
     }
 
-    /// The least sheet that satisfies a handle, field 1 compared first. [`Refusal::NothingSatisfies`] if there is none.
-    pub fn example(&self, a: Handle) -> Result<Vec<u16>, Refusal> {
+    /// The least sheet that satisfies a handle, field 1 compared first. [`Refusal::NothingSatisfies`] if there is none. All its fields are
+    /// counted: it is proved of the library that no count is above 16,384.
+    pub fn example(&self, a: Handle) -> Result<Vec<Count>, Refusal> {
         let mut sheet = vec![0; self.fields()];
         result(words::example(&self.words, a.0, &mut sheet))?;
-        Ok(sheet)
+        Ok(sheet.into_iter().map(|word| Count::from_word(word).expect("no count is above 16,384")).collect())
     }
 
-    /// Whether a sheet satisfies a handle. The sheet has one count for each field, field 1 first.
-    pub fn read(&self, a: Handle, sheet: &[u16]) -> Result<bool, Refusal> {
-        Ok(result(words::read(&self.words, a.0, sheet))? == 1)
+    /// Whether a sheet satisfies a handle. The sheet has a count for each field, field 1 first, or `None` where it was not counted.
+    ///
+    /// ```
+    /// use sheet::{Count, Field, Order, Reading, Store};
+    ///
+    /// // The calves are the adults, or three fewer.
+    /// let (adults, calves) = (Field(1), Field(2));
+    /// let (same, fewer) = (calves.equals(adults), (calves + 3).equals(adults));
+    /// let mut store = Store::open_raw(2, Order::FieldsFirst, [same, fewer], 10)?;
+    /// let rule = store.build(&(sheet::Rule::from(same) | fewer.into()))?;
+    ///
+    /// let count = |number: u8| Some(Count::from(number));
+    /// assert_eq!(store.read(rule, &[count(7), count(4)])?, Reading::Satisfies);
+    /// assert_eq!(store.read(rule, &[count(7), count(5)])?, Reading::Fails);
+    /// // With 7 adults there may be 7 calves, or 5.
+    /// assert_eq!(store.read(rule, &[count(7), None])?, Reading::Depends);
+    /// # Ok::<(), sheet::Refusal>(())
+    /// ```
+    ///
+    /// An example is a sheet that satisfies its rule.
+    ///
+    /// ```
+    /// # use sheet::{Field, Order, Reading, Store};
+    /// # let mut store = Store::open_raw(2, Order::FieldsFirst, [Field(2).equals(Field(1))], 10)?;
+    /// let rule = store.build(&Field(2).equals(Field(1)).into())?;
+    /// let example: Vec<_> = store.example(rule)?.into_iter().map(Some).collect();
+    /// assert_eq!(store.read(rule, &example)?, Reading::Satisfies);
+    /// # Ok::<(), sheet::Refusal>(())
+    /// ```
+    pub fn read(&self, a: Handle, sheet: &[Option<Count>]) -> Result<Reading, Refusal> {
+        let sheet: Vec<u16> = sheet.iter().copied().map(Count::to_word).collect();
+        result(words::read(&self.words, a.0, &sheet)).map(Reading::from_result)
     }
 
     /// A rule table for a handle. Built on this store it gives the handle again, if an operation had returned it.

@@ -47,6 +47,9 @@ pub struct SimplifyAnswer {
     pub gap: i32,
 }
 
+/// What stands on a sheet in a field that was not counted. It is no count.
+pub const BLANK: u16 = 65_535;
+
 /// The declarations of include/sheet.h.
 mod c {
     use super::{Answer, SimplifyAnswer};
@@ -173,13 +176,23 @@ pub fn verdict(store: &[u32], a: u32) -> Answer {
     unsafe { c::sheet_verdict(store.as_ptr(), store.len(), a) }
 }
 
-/// Writes the least sheet that satisfies a handle, field 1 compared first.
+/// Writes the least sheet that satisfies a handle, field 1 compared first. No count of it is [`BLANK`].
 pub fn example(store: &[u32], a: u32, sheet: &mut [u16]) -> Answer {
     // SAFETY: pointers and lengths are those of borrowed slices.
     unsafe { c::sheet_example(store.as_ptr(), store.len(), a, sheet.as_mut_ptr(), sheet.len()) }
 }
 
-/// Whether a sheet satisfies a handle: 1 if it does, else 0.
+/// Whether a sheet, on which fields may be [`BLANK`], satisfies a handle: 1 if every filling of the blanks with natural numbers does, each
+/// by itself, 0 if none does, 2 otherwise. Without blanks it is 1 or 0.
+///
+/// ```
+/// use sheet::words::{read, BLANK};
+///
+/// // 2 = S3(1) is handle 2. With 65,534 in field 1, field 2 may be 65,537; and it is never 2.
+/// let store = [2, 1, 1, 0, 2, 97, 1, 1, 0];
+/// assert_eq!(read(&store, 2, &[65_534, BLANK]).result, 2);
+/// assert_eq!(read(&store, 2, &[BLANK, 2]).result, 0);
+/// ```
 pub fn read(store: &[u32], a: u32, sheet: &[u16]) -> Answer {
     // SAFETY: pointers and lengths are those of borrowed slices.
     unsafe { c::sheet_read(store.as_ptr(), store.len(), a, sheet.as_ptr(), sheet.len()) }

@@ -129,12 +129,12 @@ fn the_order_shapes_the_diagram_and_not_the_rule() {
         let only_same = store.build(&(Rule::from(same) & !Rule::from(one_less))).unwrap();
         assert_eq!(only_same.number(), 3);
         assert_eq!(store.as_words(), words_in(order));
-        assert_eq!(store.example(only_same), Ok(vec![0, 0, 0]));
+        assert_eq!(store.example(only_same).unwrap(), [0, 0, 0]);
 
         let mut store = Store::open(3, order, told_apart(order), 2).unwrap();
         let both = store.build(&(Rule::from(same) & one_less.into())).unwrap();
         assert_eq!(store.verdict(both), Ok(Verdict::Sometimes));
-        assert_eq!(store.example(both), Ok(vec![1, 0, 0]));
+        assert_eq!(store.example(both).unwrap(), [1, 0, 0]);
     }
 }
 
@@ -189,9 +189,9 @@ fn steps_go_up_to_their_limit() {
     let questions = [aerial.equals(deck + 400), aerial.equals(deck + 1_023)];
     let mut store = Store::open(2, Order::FieldsFirst, questions, 10).unwrap();
     let higher = store.build(&aerial.equals(deck + 400).into()).unwrap();
-    assert_eq!(store.example(higher), Ok(vec![0, 400]));
+    assert_eq!(store.example(higher).unwrap(), [0, 400]);
     let highest = store.build(&aerial.equals(deck + 1_023).into()).unwrap();
-    assert_eq!(store.example(highest), Ok(vec![0, 1_023]));
+    assert_eq!(store.example(highest).unwrap(), [0, 1_023]);
     assert_eq!(store.build(&aerial.equals(deck + 401).into()), Err(Refusal::NotListed));
     assert_eq!(store.build(&aerial.equals(deck + 1_024).into()), Err(Refusal::RuleTerm));
     assert_eq!((aerial + 1).equals(deck + 1_024).simplify(), Err(Refusal::RuleTerm));
@@ -239,11 +239,11 @@ fn handles_and_sheets_are_refused() {
     assert_eq!(store.choose(Handle::ALWAYS, Handle::ALWAYS, missing), Err(Refusal::NoSuchHandle));
     assert_eq!(store.verdict(missing), Err(Refusal::NoSuchHandle));
     assert_eq!(store.example(missing), Err(Refusal::NoSuchHandle));
-    assert_eq!(store.read(missing, &[0; 3]), Err(Refusal::NoSuchHandle));
+    assert_eq!(store.read(missing, &[None; 3]), Err(Refusal::NoSuchHandle));
     assert_eq!(store.write_back(missing), Err(Refusal::NoSuchHandle));
     assert_eq!(store.entry(missing), None);
     assert_eq!(store.example(Handle::NEVER), Err(Refusal::NothingSatisfies));
-    assert_eq!(store.read(Handle::ALWAYS, &[0; 2]), Err(Refusal::SliceLength));
+    assert_eq!(store.read(Handle::ALWAYS, &[None; 2]), Err(Refusal::SliceLength));
 }
 
 #[test]

@@ -3,7 +3,7 @@
 use compare::calls::{Call, Outcome};
 use compare::comparison::Comparison;
 use compare::random::Random;
-use independent::{FIELDS_FIRST, LEFT_FIRST, ORDERS};
+use independent::{BLANK, FIELDS_FIRST, LEFT_FIRST, ORDERS};
 
 const EXACT: &str = "a case of the documents";
 
@@ -55,6 +55,7 @@ pub fn document_cases(comparison: &mut Comparison, _: &mut Random, _: u64) {
     limits(comparison);
     orders(comparison);
     raw_lists(comparison);
+    blanks(comparison);
 }
 
 /// Cases 1 to 4.
@@ -375,4 +376,61 @@ fn raw_lists_of_64(comparison: &mut Comparison) {
         opened_raw(comparison, (1, order), &raw, &[&[1, 20, 0, order], &list[..]].concat());
         refused_raw(comparison, (1, order), &raw, 43, 21);
     }
+}
+
+/// Reads sheets against a handle; each has its result beside it.
+fn readings<const N: usize>(comparison: &mut Comparison, store: &[u32], handle: u32, sheets: &[([u16; N], u32)]) {
+    for (sheet, result) in sheets {
+        let read = comparison.call(&Call::Read { handle, sheet: sheet.to_vec() }, store);
+        answer(comparison, &read, 0, *result);
+    }
+}
+
+/// Document 02's (iii): 65,535 stands for "not counted".
+fn blanks(comparison: &mut Comparison) {
+    // 2 = S3(1). Fillings are not bounded, and not negative.
+    let store = [2, 1, 1, 0, 2, 97, 1, 1, 0];
+    let sheets = [
+        ([65534, BLANK], 2),
+        ([BLANK, 2], 0),
+        ([BLANK, 3], 2),
+        ([BLANK, BLANK], 2),
+        ([0, 3], 1),
+        ([0, 4], 0),
+        ([BLANK, 65534], 2),
+        ([65534, 65534], 0),
+    ];
+    readings(comparison, &store, 2, &sheets);
+    for leaf in [0, 1] {
+        readings(comparison, &store, leaf, &sheets.map(|(sheet, _)| (sheet, leaf)));
+    }
+    for sheet in [vec![], vec![BLANK], vec![BLANK; 3]] {
+        let wrong = comparison.call(&Call::Read { handle: 2, sheet }, &store);
+        answer(comparison, &wrong, 23, 0);
+    }
+    readings(comparison, &[0, 0, 0, 0], 1, &[([], 1)]);
+    // Case 11's rule, and one that is always true though a path leads to never.
+    let neither = [1, 2, 2, 0, 1, 0, 1, 32, 2, 0, 1, 1, 0, 2];
+    readings(comparison, &neither, 3, &[([BLANK], 2), ([65534], 1)]);
+    let unfinished = [3, 3, 3, 0, 2, 1, 3, 1, 3, 2, 3, 1, 0, 2, 2, 1, 1, 3, 1];
+    readings(comparison, &unfinished, 4, &[([BLANK; 3], 1), ([5, 5, BLANK], 1), ([BLANK, 5, 5], 1)]);
+    blanks_of_two(comparison);
+}
+
+/// 3 = 2 and 3 = 1: two blanks are two numbers, and no number is both 7 and 8.
+fn blanks_of_two(comparison: &mut Comparison) {
+    let store = opened(comparison, 3, &THREE, 16);
+    let both = built(comparison, &store, &[[2, 3, 2, 0], [2, 3, 1, 0], [4, 0, 1, 0]]);
+    answer(comparison, &both, 0, 3);
+    equal(comparison, &both.store[..], &[3, 3, 2, 0, 2, 1, 3, 1, 3, 2, 2, 1, 0, 1, 2, 0]);
+    let sheets = [
+        ([7, 8, BLANK], 0),
+        ([7, 7, BLANK], 2),
+        ([BLANK, 8, 7], 0),
+        ([7, BLANK, 7], 2),
+        ([BLANK, BLANK, 7], 2),
+        ([7, 7, 7], 1),
+        ([BLANK; 3], 2),
+    ];
+    readings(comparison, &both.store, 3, &sheets);
 }

@@ -2,6 +2,7 @@
 //!
 //! SHEET_CASES says how many lists of calls are tried (other counts follow it), SHEET_SEED which ones.
 
+mod blanks;
 mod cases;
 mod hostile;
 mod limits;
@@ -20,7 +21,7 @@ use compare::random::Random;
 type Suite = fn(&mut Comparison, &mut Random, u64);
 
 /// Every suite and what it is about. Which inputs a suite tries depends on its place.
-const SUITES: [(&str, Suite); 23] = [
+const SUITES: [(&str, Suite); 25] = [
     ("the documents' cases", cases::document_cases),
     ("simplify", hostile::simplify),
     ("the two ways to find possible answers", lists::possible_answers),
@@ -44,6 +45,8 @@ const SUITES: [(&str, Suite); 23] = [
     ("raw lists with faults", raw_lists::with_faults),
     ("raw lists of any kind", raw_lists::any_lists),
     ("raw lists spelt otherwise", raw_lists::other_spellings),
+    ("sheets with blanks, stores that operations have made", blanks::made_stores),
+    ("sheets with blanks, stores written by hand", blanks::stores_by_hand),
 ];
 
 fn number_from_environment(name: &str, otherwise: u64) -> u64 {

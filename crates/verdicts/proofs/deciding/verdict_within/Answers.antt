@@ -3,5 +3,5 @@ use borrow.Author.Rules.{rules}
 use Rattle.verdicts.proofs.VerdictWays.{can_start}
 use Rattle.verdicts.proofs.deciding.verdict_within.Goals as goal
 
-pub leaves_from-requires : goal.leaves_from-requires
-leaves_from-requires c = search (rules, can_start)
+pub leaves_from-leaves-requires : goal.leaves_from-leaves-requires
+leaves_from-leaves-requires c = search (rules, can_start)
