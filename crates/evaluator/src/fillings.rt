@@ -16,7 +16,7 @@ use crate::words::{Words, at};
 // What stands on a sheet for a field that was not counted.
 pub const BLANK: u16 = 65535;
 
-// What stands on a sheet for a field, as a count if it is one.
+// The count of a field by what stands on a sheet for it; none of a field that was not counted.
 fn counted(word: u16) -> Option<u32>
     ensures blank { IsNone result ↔ (word ≡ 65535) }
     ensures count { IfSome result (λ count. count ≡ word) }
@@ -34,7 +34,7 @@ fn blanks(sheet: &[u16]) -> u32 {
 }
 
 // How far away from zero or from a count on the sheet a blank is tried.
-fn margin(store: Store<'_>, sheet: &[u16]) -> u32 {
+fn margin_of(store: Store<'_>, sheet: &[u16]) -> u32 {
     let gap = Equations(store.list()).map(|question| question.gap()).max();
     let step = gap.unwrap_or(0).saturating_add(1);
     blanks(sheet).saturating_mul(step)
@@ -43,24 +43,25 @@ fn margin(store: Store<'_>, sheet: &[u16]) -> u32 {
 // The most fillings that are tried.
 const MOST_FILLINGS: usize = 4096;
 
-// With room for one count more, so that it shows if there are too many for a single blank.
+// One more, so that it shows where there are too many for a single blank.
 const MOST_TRIED: usize = MOST_FILLINGS + 1;
 
 // The counts that are tried in each blank, some of them more than once.
 type Tried = Words<MOST_TRIED>;
 
-fn try_around(tried: &mut Tried, count: u32, margin: u32) {
+// Adds the counts within a margin of one, as far as there is room.
+fn add_around(tried: &mut Tried, count: u32, margin: u32) {
     for near in count.saturating_sub(margin)..=count.saturating_add(margin) {
         tried.push(near);
     }
 }
 
 fn tried_in(store: Store<'_>, sheet: &[u16]) -> Tried {
-    let margin = margin(store, sheet);
+    let margin = margin_of(store, sheet);
     let mut tried = Words::new();
-    try_around(&mut tried, 0, margin);
+    add_around(&mut tried, 0, margin);
     for count in sheet.iter().filter_map(|word| counted(*word)) {
-        try_around(&mut tried, count, margin);
+        add_around(&mut tried, count, margin);
     }
     tried
 }
@@ -71,6 +72,7 @@ pub struct Fillings<'a> {
     store: Store<'a>,
     sheet: &'a [u16],
     tried: Tried,
+    // how many there are
     count: usize,
 }
 
@@ -90,7 +92,7 @@ impl<'a> Fillings<'a> {
         })
     }
 
-    // The filling with a number: its digits say which of the counts tried stands in each blank. Zero is always tried, so the base is not 0.
+    // The filling with a number, whose digits say which of the counts tried stands in each blank. Zero is always tried, so the base is at least 1.
     fn filling(&self, number: usize) -> Counts {
         let tried = self.tried.as_slice();
         let base = tried.len().max(1);
