@@ -220,7 +220,11 @@ static void blanks(void)
     answer("iii read _ 65534", sheet_read(more, LENGTH(more), 2, (const uint16_t[]){SHEET_BLANK, 65534}, 2), 0, 2);
     answer("iii read 0 3", sheet_read(more, LENGTH(more), 2, (const uint16_t[]){0, 3}, 2), 0, 1);
     answer("iii read 65534 65534", sheet_read(more, LENGTH(more), 2, (const uint16_t[]){65534, 65534}, 2), 0, 0);
+    answer("iii read 65532 _", sheet_read(more, LENGTH(more), 2, (const uint16_t[]){65532, SHEET_BLANK}, 2), 0, 2);
     answer("iii read three blanks of two", sheet_read(more, LENGTH(more), 2, none, 3), 23, 0);
+    const uint32_t beside[] = {3, 1, 1, 0, 2, 97, 1, 1, 0};
+    answer("iii read 0 3 _", sheet_read(beside, LENGTH(beside), 2, (const uint16_t[]){0, 3, SHEET_BLANK}, 3), 0, 1);
+    answer("iii read _ 2 _", sheet_read(beside, LENGTH(beside), 2, (const uint16_t[]){SHEET_BLANK, 2, SHEET_BLANK}, 3), 0, 0);
     const uint32_t unfinished[] = {3, 3, 3, 0, 2, 1, 3, 1, 3, 2, 3, 1, 0, 2, 2, 1, 1, 3, 1};
     answer("iii read _ _ _ unfinished", sheet_read(unfinished, LENGTH(unfinished), 4, none, 3), 0, 1);
     answer("iii read 5 5 _ unfinished", sheet_read(unfinished, LENGTH(unfinished), 4, (const uint16_t[]){5, 5, SHEET_BLANK}, 3), 0, 1);

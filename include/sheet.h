@@ -35,9 +35,9 @@
      0 never; 1 always; 2 the equation of the term words a and b; 3 not row a; 4 rows a and b; 5 if row a then row b else row c.
    References go to lower rows, and columns that a kind does not use are 0.
 
-   A sheet is n counts of 16 bits, field 1 first. 65,535 (SHEET_BLANK) is no count: it means that the field was not counted. sheet_read takes
-   such sheets. A filling of a sheet gives each blank a natural number of any size, each by itself, and leaves the counts as they are. No
-   count of an example is 65,535, since none is above 16,384.
+   A sheet is n words of 16 bits, field 1 first: a count, 0 to 65,534, or 65,535 (SHEET_BLANK), which is no count and means that the field
+   was not counted. sheet_read alone looks for blanks. A filling of a sheet gives each blank a natural number of any size, each by itself, and
+   leaves the counts as they are.
 
    A table of diagrams, which another tool has made and sheet_check_normal_form checks, is entries of four words: left term word, right term
    word, yes handle, no handle. Handles are numbered as in a store: 0 is never, 1 is always, and the i-th entry, counted from 0, is handle
@@ -145,11 +145,12 @@ sheet_answer sheet_join(uint32_t *store, size_t store_len, uint32_t a, uint32_t 
    Refusals: 22, 41 from the first handle on, 51. */
 sheet_answer sheet_choose(uint32_t *store, size_t store_len, uint32_t a, uint32_t b, uint32_t c);
 
-/* The verdict of a handle: the result is 0 if no choice of counts satisfies it, 1 if every one does, 2 if some do.
+/* The verdict of a handle: the result is 0 if no choice of counts satisfies it, 1 if every one does, 2 if some do and some don't.
    Refusals: 22, 41. */
 sheet_answer sheet_verdict(const uint32_t *store, size_t store_len, uint32_t a);
 
-/* Writes the least sheet that satisfies a handle, field 1 compared first. sheet_len is n. The result is 0.
+/* Writes the least sheet that satisfies a handle, field 1 compared first. What the sheet held is not looked at, and SHEET_BLANK is never written:
+   no count is above 16,384. sheet_len is n. The result is 0.
    Refusals: 22, 41, 23 (sheet_len is not n), 52. */
 sheet_answer sheet_example(const uint32_t *store, size_t store_len, uint32_t a, uint16_t *sheet, size_t sheet_len);
 

@@ -31,13 +31,24 @@ readings s handle rs = record { start = s; calls = calls_of handle rs; expected 
 abbrev three_more : List ℕ
 three_more = 2 ∷ 1 ∷ 1 ∷ 0 ∷ 2 ∷ 97 ∷ 1 ∷ 1 ∷ 0 ∷ []
 
--- With 65,534 in field 1, field 2 may be 65,537, which is no number of 16 bits. Field 2 is never 0, 1 or 2. With 65,534 in field 2, field 1 may be 65,531.
+-- With 65,534 in field 1, field 2 may be 65,537, which is no number of 16 bits, and with 65,532 it may be 65,535. Field 2 is never 0, 1 or 2. With 65,534 in field 2, field 1 may
+-- be 65,531.
 abbrev blanks_at_the_edge : Case
 blanks_at_the_edge =
     let sheets : List Reading =
     reads_as (65534 ∷ not_counted ∷ []) 2 ∷ reads_as (not_counted ∷ 2 ∷ []) 0 ∷ reads_as (not_counted ∷ 3 ∷ []) 2 ∷ reads_as (not_counted ∷ not_counted ∷ []) 2
-    ∷ reads_as (0 ∷ 3 ∷ []) 1 ∷ reads_as (0 ∷ 4 ∷ []) 0 ∷ reads_as (not_counted ∷ 65534 ∷ []) 2 ∷ reads_as (65534 ∷ 65534 ∷ []) 0 ∷ [] in
+    ∷ reads_as (0 ∷ 3 ∷ []) 1 ∷ reads_as (0 ∷ 4 ∷ []) 0 ∷ reads_as (not_counted ∷ 65534 ∷ []) 2 ∷ reads_as (65534 ∷ 65534 ∷ []) 0
+    ∷ reads_as (65532 ∷ not_counted ∷ []) 2 ∷ [] in
     readings three_more 2 sheets
+
+-- The same with a third field, which no question names: two counts may settle the rule beside its blank, and one beside two. In the older order too.
+abbrev blanks_beside_counts : List Case
+blanks_beside_counts =
+    let sheets : List Reading =
+    reads_as (0 ∷ 3 ∷ not_counted ∷ []) 1 ∷ reads_as (0 ∷ 4 ∷ not_counted ∷ []) 0 ∷ reads_as (not_counted ∷ 2 ∷ not_counted ∷ []) 0
+    ∷ reads_as (0 ∷ not_counted ∷ 3 ∷ []) 2 ∷ [] in
+    let in_order : ℕ → Case = λ order. readings (3 ∷ 1 ∷ 1 ∷ order ∷ 2 ∷ 97 ∷ 1 ∷ 1 ∷ 0 ∷ []) 2 sheets in
+    in_order 0 ∷ in_order 1 ∷ []
 
 -- Handle 1 is satisfied by every filling of every sheet, handle 0 by none.
 abbrev blanks_and_leaves : List Case
@@ -84,4 +95,4 @@ blanks_refused =
     ∷ record { start = broken; calls = read 3 short ∷ []; expected = answered 22 0 broken short ∷ [] } ∷ []
 
 abbrev pub blanks_cases : List Case
-blanks_cases = blanks_at_the_edge ∷ blanks_of_case_11 ∷ blanks_unfinished ∷ blanks_joined ∷ (blanks_and_leaves ++ blanks_refused)
+blanks_cases = blanks_at_the_edge ∷ blanks_of_case_11 ∷ blanks_unfinished ∷ blanks_joined ∷ (blanks_beside_counts ++ blanks_and_leaves ++ blanks_refused)

@@ -1,6 +1,6 @@
--- An example that is written is the least sheet of a choice of counts that satisfies the handle. Read as a sheet it is that choice again, on the fields that
+-- An example that is written is the least sheet of a choice of counts that satisfies the handle. As a choice of counts it is that choice again, on the fields that
 -- the handle reads; and a sheet before it is the sheet of a choice that comes before, which fails the handle.
-use Rattle.std.specs.Prelude.{Some, None, Ok, Err}
+use Rattle.std.specs.Prelude.{Some, None, Err}
 use Prim.Native.Nat.{ℕ, ◌+◌, ◌-◌, ◌≤◌, ◌<◌}
 use mathlib.Core.Path.{◌≡◌, refl, sym, ap, ◌∙◌, subst}
 use mathlib.Core.Bool.{true, false, cond, true≢false}
@@ -69,13 +69,14 @@ module _ (limits : Limits) (s : List ℕ) (is : sound limits s ≡ true) (handle
     handle_in : handle < used s + leaves
     handle_in = ltb-true handle (used s + leaves) u
 
-    read_again : (v : Valuation) → meaning s handle (sheet_counts (sheet n v)) ≡ meaning s handle v
-    read_again v = same_meaning snd (sheet_counts (sheet n v)) v (same_question snd (sheet_counts (sheet n v)) v (choice_of_sheet n v)) handle handle_in
+    same_choice : (v : Valuation) → meaning s handle (sheet_counts (sheet n v)) ≡ meaning s handle v
+    same_choice v = same_meaning snd (sheet_counts (sheet n v)) v (same_question snd (sheet_counts (sheet n v)) v (choice_of_sheet n v)) handle handle_in
 
     first_example : (v : Valuation) → IsLeast n (λ w. meaning s handle w ≡ true) v → FirstExample s handle (sheet n v)
     first_example v least = record {
+      has_handle = u;
       right_length = sheet_length n v;
-      satisfies = read_again v ∙ least.meets;
+      satisfies = same_choice v ∙ least.meets;
       first = λ other e before. by_test (λ t. t ≡ false) (meaning s handle (sheet_counts other))
           (λ m. absurd (true≢false (sym before ∙ ap (λ y. lex y (sheet n v)) (sym (sheet_of_list other n e))
           ∙ least_not_after n (λ w. meaning s handle w ≡ true) v least (sheet_counts other) m)))

@@ -12,6 +12,7 @@ use Rattle.terms.specs.Order.{lex}
 
 -- the counts written
 pub record FirstExample (s : List ℕ) (handle : ℕ) (sheet : List ℕ) : Type 0 where
+  pub has_handle : is_handle s handle ≡ true
   pub right_length : length sheet ≡ field_count s
   -- they satisfy the handle; that reading them answers 1 is a theorem of its own, since a count of 65,535 would be read as a blank
   pub satisfies : meaning s handle (sheet_counts sheet) ≡ true

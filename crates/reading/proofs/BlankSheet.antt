@@ -5,13 +5,13 @@ use mathlib.Core.Bool.{cond}
 use mathlib.Core.List.{List, []}
 use native.Mathlib.Omega.{arith}
 use borrow.Author.Tests.{eq-eqb}
-use lib.ListN.{length}
+use lib.ListN.{length, replicate, length-replicate}
+use Rattle.std.proofs.lemmas.List.{get_or-replicate}
 use Rattle.std.specs.Prelude.{Ok}
 use Rattle.facts.specs.State.{start, state_of}
 use Rattle.reading.specs.declared.answer.Reading.TheVariants as reading
-use Rattle.reading.specs.AsVerdict.{AsVerdict}
-use Rattle.reading.specs.Blanks.{AllBlank, facts_up_to}
-use Rattle.reading.specs.Read.{reached_by, read_by, read_sheet}
+use Rattle.reading.specs.Blanks.{blank, facts_up_to}
+use Rattle.reading.specs.Read.{Read, reached_by, read_by, read_sheet, read_number, read_result}
 use Rattle.store.specs.Layout.{field_count, question, is_handle}
 use Rattle.store.specs.Sound.{sound}
 use Rattle.store.specs.Tree.{tree}
@@ -19,30 +19,40 @@ use Rattle.terms.specs.declared.limits.Limits.{Limits}
 use Rattle.store.specs.declared.verdict.Verdict.TheVariants as verdict
 use Rattle.verdicts.specs.declared.leaves.Leaves.{Leaves}
 use Rattle.verdicts.specs.Leaves.{reached}
-use Rattle.verdicts.specs.Verdict.{verdict_by}
+use Rattle.verdicts.specs.Verdict.{VerdictAnswer, verdict_by, verdict_number, verdict_result}
 use Rattle.verdicts.specs.Verdict as verdicts
 use Rattle.terms.proofs.Cases.{by_test}
 
-no_facts : (sheet : List ℕ) → AllBlank sheet → (k : ℕ) → k ≤ length sheet → facts_up_to sheet k ≡ []
+no_facts : (n k : ℕ) → k ≤ n → facts_up_to (replicate n blank) k ≡ []
 unfolding facts_up_to
-no_facts sheet all zero l = refl
-no_facts sheet all (suc k) l = rw (all k (omega arith)) (no_facts sheet all k (omega arith))
+no_facts n zero l = refl
+no_facts n (suc k) l = rw (get_or-replicate n k blank 0 (omega arith)) (no_facts n k (omega arith))
+
+-- an answer of reading that is, in numbers, one of verdict
+abbrev AsVerdict : Read → VerdictAnswer → Type 0
+AsVerdict r d = (read_number r ≡ verdict_number d) × (read_result r ≡ verdict_result d)
 
 same_leaves : (l : Leaves) → AsVerdict (Ok (read_by l)) (Ok (verdict_by l))
 same_leaves l = by_test (λ a. AsVerdict (Ok (cond a (cond l.never reading.Depends reading.Satisfies) reading.Fails)) (Ok (cond a (cond l.never verdict.Sometimes verdict.Always) verdict.Never))) l.always
-    (λ _. by_test (λ n. AsVerdict (Ok (cond n reading.Depends reading.Satisfies)) (Ok (cond n verdict.Sometimes verdict.Always))) l.never
-    (λ _. record { number = refl; result = refl }) (λ _. record { number = refl; result = refl }))
-    (λ _. record { number = refl; result = refl })
+    (λ _. by_test (λ n. AsVerdict (Ok (cond n reading.Depends reading.Satisfies)) (Ok (cond n verdict.Sometimes verdict.Always))) l.never (λ _. (refl, refl)) (λ _. (refl, refl)))
+    (λ _. (refl, refl))
 
--- Reading a sheet of n blanks answers with the verdict, whatever the store and the handle.
-pub blank_reads : (limits : Limits) (s : List ℕ) (handle : ℕ) (sheet : List ℕ) → length sheet ≡ field_count s → AllBlank sheet
-    → AsVerdict (read_sheet limits s handle sheet) (verdicts.verdict limits s handle)
-unfolding read_sheet verdicts.verdict
-blank_reads limits s handle sheet l all =
-    let same : read_by (reached_by s handle sheet) ≡ read_by (reached (question s) (tree s handle) start) =
-    ap (λ xs. read_by (reached (question s) (tree s handle) (state_of xs))) (no_facts sheet all (length sheet) (omega arith)) in
-    by_test (λ t. AsVerdict (read_sheet limits s handle sheet) (verdicts.verdict limits s handle)) (sound limits s)
-    (λ is. by_test (λ t. AsVerdict (read_sheet limits s handle sheet) (verdicts.verdict limits s handle)) (is_handle s handle)
-    (λ u. rw (is, u, eq-eqb (length sheet) (field_count s) l, same) (same_leaves (reached (question s) (tree s handle) start)))
-    (λ u. rw (is, u) (record { number = refl; result = refl })))
-    (λ is. rw is (record { number = refl; result = refl }))
+module _ (limits : Limits) (s : List ℕ) (handle : ℕ) where
+  abbrev r : Read
+  r = read_sheet limits s handle (replicate (field_count s) 65535)
+
+  abbrev d : VerdictAnswer
+  d = verdicts.verdict limits s handle
+
+  -- Reading a sheet of n blanks answers with the verdict, whatever the store and the handle.
+  pub blank_reads : (read_number r ≡ verdict_number d) × (read_result r ≡ verdict_result d)
+  unfolding read_sheet verdicts.verdict
+  blank_reads =
+      let n = field_count s in
+      let same : read_by (reached_by s handle (replicate n blank)) ≡ read_by (reached (question s) (tree s handle) start) =
+      ap (λ xs. read_by (reached (question s) (tree s handle) (state_of xs))) (no_facts n (length (replicate n blank)) (omega (arith, length-replicate n blank))) in
+      by_test (λ t. AsVerdict r d) (sound limits s)
+      (λ is. by_test (λ t. AsVerdict r d) (is_handle s handle)
+      (λ u. rw (is, u, eq-eqb (length (replicate n blank)) n (length-replicate n blank), same) (same_leaves (reached (question s) (tree s handle) start)))
+      (λ u. rw (is, u) (refl, refl)))
+      (λ is. rw is (refl, refl))

@@ -3,7 +3,7 @@
 use Prim.Native.Nat.{ℕ, zero, suc, ◌-◌, ◌<◌}
 use mathlib.Core.Path.{◌≡◌, refl, sym, ap, subst, ◌∙◌}
 use mathlib.Core.Logic.{◌↔◌}
-use mathlib.Core.Bool.{true, false}
+use mathlib.Core.Bool.{true, false, cond}
 use mathlib.Core.List.{List}
 use native.Mathlib.Omega.{arith}
 use native.Mathlib.Decide.{ℕ_discrete}
@@ -13,7 +13,7 @@ use Rattle.facts.specs.Facts.{Fits}
 use Rattle.facts.specs.State.{at, free, state_of}
 use Rattle.facts.proofs.Decided.{fits_free}
 use Rattle.facts.proofs.LeastSheet.{counts_true, counts_says}
-use Rattle.reading.specs.Blanks.{is_blank, Fills, with_count, facts_up_to, sheet_facts}
+use Rattle.reading.specs.Blanks.{is_blank, Fills, filled, with_count, facts_up_to, sheet_facts}
 use Rattle.reading.specs.Sheet.{sheet_counts}
 use Rattle.terms.specs.Meaning.{Valuation}
 use Rattle.terms.specs.Words.{field}
@@ -69,6 +69,10 @@ module _ (sheet : List ℕ) (v : Valuation) where
   sheet_facts_exact = (λ h. below_fills (fits_up_to (length sheet) h), λ fills. up_to_fits (length sheet) (fills_below fills))
 
 -- ---- some filling
+-- The blanks may be filled with any numbers, each by itself.
+pub any_filling : (sheet : List ℕ) (w : Valuation) → Fills sheet (filled sheet w)
+any_filling sheet w = record { counted = λ f l h n. ap (λ b. cond b (w f) (sheet_counts sheet f)) n }
+
 -- the sheet's own numbers are one, with 65,535 in each blank
 pub itself_fills : (sheet : List ℕ) → Fills sheet (sheet_counts sheet)
 itself_fills sheet = record { counted = λ f l h n. refl }

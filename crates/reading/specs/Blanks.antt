@@ -19,12 +19,13 @@ is_blank count = eqb count blank
 pub record Fills (sheet : List ℕ) (v : Valuation) : Type 0 where
   pub counted : (f : Field) → 1 ≤ f.0 → f.0 ≤ length sheet → is_blank (sheet_counts sheet f) ≡ false → v f ≡ sheet_counts sheet f
 
--- all fields were counted, or none was
+-- the filling of a sheet that takes its blanks from a choice of counts
+abbrev pub filled : List ℕ → Valuation → Valuation
+filled sheet w f = cond (is_blank (sheet_counts sheet f)) (w f) (sheet_counts sheet f)
+
+-- all fields were counted
 abbrev pub NoBlank : List ℕ → Type 0
 NoBlank sheet = (i : ℕ) → i < length sheet → is_blank (get_or sheet i 0) ≡ false
-
-abbrev pub AllBlank : List ℕ → Type 0
-AllBlank sheet = (i : ℕ) → i < length sheet → is_blank (get_or sheet i 0) ≡ true
 
 -- ---- as a function that computes
 -- the facts with "the field counts so much", unless it is a blank

@@ -1,2 +1,3 @@
 pub mod RunInOrder
 pub mod RunFromRaw
+pub mod ReadAlike

@@ -7,7 +7,7 @@ use lib.ListN.{length}
 use Rattle.examples.specs.Example.{example}
 use Rattle.examples.specs.ExampleAnswers.{ExampleAnswers}
 use Rattle.operations.specs.Handles.{Call, Pair, Books, first_books, opened_books, run, In}
-use Rattle.std.specs.Prelude.{Ok, Err}
+use Rattle.std.specs.Prelude.{Ok}
 use Rattle.raw_lists.specs.OpenRaw.{resulting_list, open_raw}
 use Rattle.reading.specs.Read.{read_sheet}
 use Rattle.reading.specs.ReadExactly.{ReadExactly}

@@ -31,7 +31,7 @@ built_answer b = answer_with (built_number b) (built_result b)
 abbrev pub verdict_answer : VerdictAnswer → Answer
 verdict_answer v = answer_with (verdict_number v) (verdict_result v)
 
--- "1 if it satisfies the handle, else 0"
+-- "1 if every filling of the blanks ... satisfies the rule, 0 if none does, 2 otherwise"
 abbrev pub read_answer : Read → Answer
 read_answer r = answer_with (read_number r) (read_result r)
 

@@ -28,7 +28,7 @@ pub extern "C" fn sheet_example(store: &[u32], a: u32, sheet: &mut [u16]) -> Ans
     sheet::sheet_example(store, a, sheet)
 }
 
-// Whether a sheet satisfies a handle.
+// Whether no, every, or some but not every filling of a sheet satisfies a handle.
 #[unsafe(no_mangle)]
 pub extern "C" fn sheet_read(store: &[u32], a: u32, sheet: &[u16]) -> Answer
     ensures { result ≡ spec.read_answer (read_sheet limit.store_limits store.now a sheet.now) }

@@ -20,7 +20,7 @@ most_questions = 20
 abbrev pub most_entries : ℕ
 most_entries = 4096
 
--- "a sheet of n counts, each 0 to 65,535"
+-- "a sheet of n counts, each 0 to 65,535", of which the last means "not counted" since document 02 (iii)
 abbrev pub most_count : ℕ
 most_count = 65535
 

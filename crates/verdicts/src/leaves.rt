@@ -1,4 +1,4 @@
-// Which leaves some sheet reaches from a handle.
+// Which leaves some choice of counts reaches from a handle.
 ghost use Rattle.std.specs.Prelude.{◌≡◌};
 ghost use Rattle.facts.specs.Record as facts;
 ghost use Rattle.store.specs.Layout as layout;
@@ -10,7 +10,7 @@ ghost use Rattle.verdicts.specs.Needs.{CanDescend};
 use facts::{Asked, Facts, ask, no};
 use store::{LEAVES, entry_of, question_at, wide};
 
-// Whether some sheet that fits the facts reaches the leaf never, and whether some reaches the leaf always.
+// Whether some choice of counts that fits the facts reaches the leaf never, and whether some reaches the leaf always.
 #[derive(Clone, Copy, Debug, PartialEq, Eq)]
 pub struct Leaves {
     pub never: bool,
@@ -40,7 +40,7 @@ fn either(a: Leaves, b: Leaves) -> Leaves
     }
 }
 
-// The leaves that sheets fitting the facts reach from a handle. Once both are reached, nothing is left to find.
+// The leaves that choices of counts fitting the facts reach from a handle. Once both are reached, nothing is left to find.
 pub fn leaves_from(s: &[u32], handle: usize, f: Facts) -> Leaves
     requires { CanDescend most_count s.now handle f }
     ensures { result ≡ spec.reached (layout.question s.now) (tree.tree s.now handle) (facts.state f) }

@@ -72,7 +72,7 @@ pub mod occasion {
         "blanks beside 65,533 or 65,534 read as 1",
         "blanks beside 65,533 or 65,534 read as 2",
     ];
-    pub const VERDICT_KEPT_OUT: &str = "blanks and counts read as 0 or 1, of a rule that is sometimes true";
+    pub const COUNTS_DECIDE: &str = "blanks and counts read as 0 or 1, of a rule that is sometimes true";
 
     /// Every occasion.
     pub const ALL: [&str; 47] = [
@@ -122,7 +122,7 @@ pub mod occasion {
         BLANKS_AT_THE_EDGE[0],
         BLANKS_AT_THE_EDGE[1],
         BLANKS_AT_THE_EDGE[2],
-        VERDICT_KEPT_OUT,
+        COUNTS_DECIDE,
     ];
 }
 

@@ -12,6 +12,7 @@ use crate::words::BLANK;
 /// // Numbers that were counted.
 /// assert_eq!(Count::try_from(65_534_u16)?.number(), 65_534);
 /// assert_eq!(Count::try_from(65_535_u16), Err(NotACount));
+/// assert_eq!(Count::try_from(70_000_u32), Err(NotACount));
 ///
 /// // The words of a sheet, which has blanks.
 /// let fields = [4, 65_535, 6].map(Count::from_word);
@@ -22,7 +23,8 @@ use crate::words::BLANK;
 pub struct Count(u16);
 
 impl Count {
-    /// The count that a word of a sheet stands for; `None` for 65,535, a field that was not counted.
+    /// The count that a word of a sheet stands for; `None` for 65,535, a field that was not counted. A number that was counted is no such
+    /// word: it goes through `try_from`, which takes no blank for a count.
     pub const fn from_word(word: u16) -> Option<Count> {
         match word {
             BLANK => None,
@@ -55,12 +57,35 @@ impl TryFrom<u16> for Count {
     }
 }
 
+impl TryFrom<u32> for Count {
+    type Error = NotACount;
+
+    fn try_from(number: u32) -> Result<Count, NotACount> {
+        u16::try_from(number).map_err(|_| NotACount)?.try_into()
+    }
+}
+
+impl TryFrom<usize> for Count {
+    type Error = NotACount;
+
+    fn try_from(number: usize) -> Result<Count, NotACount> {
+        u16::try_from(number).map_err(|_| NotACount)?.try_into()
+    }
+}
+
 impl From<Count> for u16 {
     fn from(count: Count) -> u16 {
         count.0
     }
 }
 
+impl From<Count> for u32 {
+    fn from(count: Count) -> u32 {
+        count.0.into()
+    }
+}
+
+/// A count is the number that was counted; none equals 65,535.
 impl PartialEq<u16> for Count {
     fn eq(&self, number: &u16) -> bool {
         self.0 == *number
@@ -79,13 +104,13 @@ impl fmt::Display for Count {
     }
 }
 
-/// That a number is no [`Count`]: it is 65,535.
+/// That a number is no [`Count`]: it is above 65,534.
 #[derive(Clone, Copy, Debug, PartialEq, Eq)]
 pub struct NotACount;
 
 impl fmt::Display for NotACount {
     fn fmt(&self, f: &mut fmt::Formatter<'_>) -> fmt::Result {
-        f.write_str("65,535 is no count: on a sheet it means \"not counted\"")
+        f.write_str("a count is 0 to 65,534 (on a sheet 65,535 means \"not counted\")")
     }
 }
 

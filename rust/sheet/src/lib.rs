@@ -1,9 +1,9 @@
 //! Rules over counts as decision diagrams with one handle per meaning.
 //!
-//! A sheet has up to 16 fields, each with a [count](Count) or without one. A rule is a Boolean combination of equations between fields, numbers and fields plus
-//! steps. A [`Store`] is opened for a list of questions, which stand in one of two [orders](Order), or for equations
-//! [as they come](Store::open_raw), and holds the diagrams of rules over these questions: two rules have the same [`Handle`] exactly if
-//! they agree on every sheet.
+//! A sheet has up to 16 fields, each with a [count](Count), or without one where nothing was counted. A rule is a Boolean combination of
+//! equations between fields, numbers and fields plus steps. A [`Store`] is opened for a list of questions, which stand in one of two
+//! [orders](Order), or for equations [as they come](Store::open_raw), and holds the diagrams of rules over these questions: two rules have
+//! the same [`Handle`] exactly if they agree under every choice of counts.
 //!
 //! The work is done by a library that is proved to do what it promises; this crate gives it Rust's types. What C's callers have to
 //! see to (that lent memory is there, is as long as they say, and doesn't overlap) can't go wrong here. The library keeps nothing between
@@ -30,7 +30,7 @@
 //! // The least sheet on which the counts don't all agree, the first field compared first.
 //! let differ = store.negate(agree)?;
 //! assert_eq!(store.example(differ)?, [0, 0, 1]);
-//! assert_eq!(store.read(differ, &[4, 5, 4].map(Count::from_word))?, Reading::Satisfies);
+//! assert!(store.read_counted(differ, &[4_u8, 5, 4].map(Count::from))?);
 //!
 //! // With the second count missing, they may all agree or not.
 //! assert_eq!(store.read(differ, &[Some(Count::from(4)), None, Some(Count::from(4))])?, Reading::Depends);

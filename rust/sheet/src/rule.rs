@@ -107,7 +107,7 @@ pub enum Row {
 /// Unlike in a [`Rule`], a part can be used in many places.
 ///
 /// ```
-/// use sheet::{Count, Field, Order, Reading, Row, RuleTable, Store};
+/// use sheet::{Count, Field, Order, Row, RuleTable, Store};
 ///
 /// // Of three fields, an odd number of pairs is equal.
 /// let pairs = [Field(2).equals(Field(1)), Field(3).equals(Field(1)), Field(3).equals(Field(2))];
@@ -120,8 +120,8 @@ pub enum Row {
 /// }
 /// let mut store = Store::open(3, Order::FieldsFirst, pairs, 20)?;
 /// let handle = store.build_table(&table)?;
-/// assert_eq!(store.read(handle, &[4, 4, 4].map(Count::from_word))?, Reading::Satisfies);
-/// assert_eq!(store.read(handle, &[4, 5, 6].map(Count::from_word))?, Reading::Fails);
+/// assert!(store.read_counted(handle, &[4_u8, 4, 4].map(Count::from))?);
+/// assert!(!store.read_counted(handle, &[4_u8, 5, 6].map(Count::from))?);
 /// # Ok::<(), sheet::Refusal>(())
 /// ```
 #[derive(Clone, Debug, Default, PartialEq, Eq)]

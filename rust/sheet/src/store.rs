@@ -45,18 +45,27 @@ impl Verdict {
     }
 }
 
-/// What a sheet says of a rule. Where fields were not counted, each of them may have any count, by itself.
+/// What a sheet says of a rule. A field that was not counted may have any natural number, above 65,534 too, each such field by itself.
 #[derive(Clone, Copy, Debug, PartialEq, Eq)]
 pub enum Reading {
-    /// It breaks the rule, whatever stands in the fields that were not counted.
+    /// It breaks the rule, whatever the numbers of these fields.
     Fails,
-    /// It satisfies the rule, whatever stands in them.
+    /// It satisfies the rule, whatever they are.
     Satisfies,
-    /// It depends on what stands in them: some counts satisfy the rule, and some break it.
+    /// It depends on them: some numbers satisfy the rule, and some break it.
     Depends,
 }
 
 impl Reading {
+    /// Whether the sheet satisfies the rule, if its counts settle that.
+    pub const fn settled(self) -> Option<bool> {
+        match self {
+            Reading::Fails => Some(false),
+            Reading::Satisfies => Some(true),
+            Reading::Depends => None,
+        }
+    }
+
     /// The reading that a result stands for.
     fn from_result(result: u32) -> Reading {
         match result {
@@ -299,7 +308,8 @@ impl Store {
         Ok(sheet.into_iter().map(|word| Count::from_word(word).expect("no count is above 16,384")).collect())
     }
 
-    /// Whether a sheet satisfies a handle. The sheet has a count for each field, field 1 first, or `None` where it was not counted.
+    /// Whether a sheet satisfies a handle. The sheet has a count for each field, field 1 first, or `None` where it was not counted: there any
+    /// natural number may stand, in each such field by itself.
     ///
     /// ```
     /// use sheet::{Count, Field, Order, Reading, Store};
@@ -313,24 +323,30 @@ impl Store {
     /// let count = |number: u8| Some(Count::from(number));
     /// assert_eq!(store.read(rule, &[count(7), count(4)])?, Reading::Satisfies);
     /// assert_eq!(store.read(rule, &[count(7), count(5)])?, Reading::Fails);
-    /// // With 7 adults there may be 7 calves, or 5.
+    /// // With 7 adults, 7 calves satisfy the rule and 5 break it.
     /// assert_eq!(store.read(rule, &[count(7), None])?, Reading::Depends);
     /// # Ok::<(), sheet::Refusal>(())
     /// ```
     ///
-    /// An example is a sheet that satisfies its rule.
-    ///
-    /// ```
-    /// # use sheet::{Field, Order, Reading, Store};
-    /// # let mut store = Store::open_raw(2, Order::FieldsFirst, [Field(2).equals(Field(1))], 10)?;
-    /// let rule = store.build(&Field(2).equals(Field(1)).into())?;
-    /// let example: Vec<_> = store.example(rule)?.into_iter().map(Some).collect();
-    /// assert_eq!(store.read(rule, &example)?, Reading::Satisfies);
-    /// # Ok::<(), sheet::Refusal>(())
-    /// ```
     pub fn read(&self, a: Handle, sheet: &[Option<Count>]) -> Result<Reading, Refusal> {
         let sheet: Vec<u16> = sheet.iter().copied().map(Count::to_word).collect();
         result(words::read(&self.words, a.0, &sheet)).map(Reading::from_result)
+    }
+
+    /// Whether a sheet satisfies a handle, on which every field was counted.
+    ///
+    /// ```
+    /// use sheet::{Field, Order, Store};
+    ///
+    /// // An example is a sheet that satisfies its rule.
+    /// let mut store = Store::open_raw(2, Order::FieldsFirst, [Field(2).equals(Field(1) + 3)], 10)?;
+    /// let rule = store.build(&Field(2).equals(Field(1) + 3).into())?;
+    /// assert!(store.read_counted(rule, &store.example(rule)?)?);
+    /// # Ok::<(), sheet::Refusal>(())
+    /// ```
+    pub fn read_counted(&self, a: Handle, sheet: &[Count]) -> Result<bool, Refusal> {
+        let sheet: Vec<u16> = sheet.iter().copied().map(Count::number).collect();
+        result(words::read(&self.words, a.0, &sheet)).map(|read| read == 1)
     }
 
     /// A rule table for a handle. Built on this store it gives the handle again, if an operation had returned it.

@@ -1,9 +1,9 @@
 //! The typed interface gives what the words give, and every refusal that its types leave possible.
 
 use sheet::{
-    words, DiagramEntry, DiagramTable, Equation, Field, Handle, Limits, LoggerStore, Order, Question, Refusal,
+    words, Count, DiagramEntry, DiagramTable, Equation, Field, Handle, Limits, LoggerStore, NotACount, Order, Question,
 };
-use sheet::{Row, RowNumber, Rule, RuleTable, Simplified, Store, Verdict, ZERO};
+use sheet::{Reading, Refusal, Row, RowNumber, Rule, RuleTable, Simplified, Store, Verdict, ZERO};
 
 fn pairs() -> [Equation; 3] {
     [Field(2).equals(Field(1)), Field(3).equals(Field(1)), Field(3).equals(Field(2))]
@@ -244,6 +244,39 @@ fn handles_and_sheets_are_refused() {
     assert_eq!(store.entry(missing), None);
     assert_eq!(store.example(Handle::NEVER), Err(Refusal::NothingSatisfies));
     assert_eq!(store.read(Handle::ALWAYS, &[None; 2]), Err(Refusal::SliceLength));
+}
+
+#[test]
+fn fields_that_were_not_counted_may_have_any_number() {
+    let mut store = Store::open(3, Order::FieldsFirst, [Field(2).equals(Field(1) + 3)], 10).unwrap();
+    let three_more = store.build(&Field(2).equals(Field(1) + 3).into()).unwrap();
+    let count = |number: u32| Some(Count::try_from(number).unwrap());
+    let read = |sheet: [Option<Count>; 3]| store.read(three_more, &sheet).unwrap();
+
+    // 65,535 and 65,537, which no count is, fill these blanks.
+    assert_eq!(read([count(65_532), None, count(0)]), Reading::Depends);
+    assert_eq!(read([count(65_534), None, count(0)]), Reading::Depends);
+    assert_eq!(read([None, count(2), None]), Reading::Fails);
+    assert_eq!(read([count(0), count(3), None]), Reading::Satisfies);
+    assert_eq!(read([None; 3]), Reading::Depends);
+    assert_eq!(
+        [Reading::Fails, Reading::Satisfies, Reading::Depends].map(Reading::settled),
+        [Some(false), Some(true), None]
+    );
+
+    let counted = |numbers: [u32; 3]| store.read_counted(three_more, &numbers.map(|number| count(number).unwrap()));
+    assert_eq!(counted([65_531, 65_534, 0]), Ok(true));
+    assert_eq!(counted([65_534, 65_534, 0]), Ok(false));
+    assert_eq!(store.read_counted(three_more, &[]), Err(Refusal::SliceLength));
+}
+
+#[test]
+fn the_number_for_a_blank_is_no_count() {
+    assert_eq!(Count::try_from(65_534_u32).map(Count::number), Ok(65_534));
+    assert_eq!(Count::try_from(u16::MAX), Err(NotACount));
+    assert_eq!(Count::try_from(u32::from(u16::MAX)), Err(NotACount));
+    assert_eq!(Count::try_from(65_536_usize), Err(NotACount));
+    assert_eq!(Count::from_word(words::BLANK), None);
 }
 
 #[test]

@@ -12,7 +12,7 @@ use compare::generate::{in_order, parity_rule, sound_entries, store_of, tangled_
 use compare::library::Library;
 use compare::normal_forms::{self, last, Entry};
 use compare::random::Random;
-use independent::{Fast, Operations, Term, FIELDS_FIRST, FIRST_ENTRY, HEADING, MOST_ENTRIES, MOST_STEPS};
+use independent::{Fast, Operations, Term, BLANK, FIELDS_FIRST, FIRST_ENTRY, HEADING, MOST_ENTRIES, MOST_STEPS};
 
 /// A row's process is ended after this time.
 const MOST_TIME: Duration = Duration::from_secs(60);
@@ -130,6 +130,20 @@ fn chain() -> Survey {
     survey(16, links.chain(numbers))
 }
 
+/// Fifteen fields in such a chain, five against numbers, and field 16 against zero, which is the last question.
+fn chain_beside_one() -> Survey {
+    let links = (2..=15).map(|field| question(field, field - 1, field));
+    let numbers = [1, 5, 8, 11, 14].map(|field| question(field, 0, 3 * (field - 1)));
+    survey(16, links.chain(numbers).chain([question(16, 0, 0)]))
+}
+
+/// Thirteen fields, each against zero, five pairs of them, and field 16 against 14 and 15, which are the last two questions.
+fn wide_beside_three() -> Survey {
+    let zeros = (1..=13).map(|field| question(field, 0, 0));
+    let pairs = [2, 4, 6, 8, 10].map(|field| question(field, field - 1, 0));
+    survey(16, zeros.chain(pairs).chain([question(16, 14, 0), question(16, 15, 0)]))
+}
+
 /// All pairs of six fields, and five of these against zero: 20 questions with many forced ones and large diagrams.
 fn dense() -> Survey {
     let pairs = (2..=6).flat_map(|left| (1..left).map(move |right| question(left, right, 0)));
@@ -142,14 +156,24 @@ fn one_field() -> Survey {
     survey(1, (0..20).map(|number| question(1, 0, number)))
 }
 
+/// A rule, and that all of the list words' questions are true.
+fn and_all(mut rule: Vec<u32>, list: &[u32]) -> Vec<u32> {
+    for pair in list.chunks(2) {
+        let own = (rule.len() / 4) as u32;
+        rule.extend([[2, pair[0], pair[1], 0], [4, own - 1, own, 0]].concat());
+    }
+    rule
+}
+
 /// The rule that all of the list words' questions are true.
 fn all_of(list: &[u32]) -> Vec<u32> {
-    let mut table: Vec<[u32; 4]> = vec![[1, 0, 0, 0]];
-    for pair in list.chunks(2) {
-        let own = table.len() as u32;
-        table.extend([[2, pair[0], pair[1], 0], [4, own - 1, own, 0]]);
-    }
-    table.concat()
+    and_all(vec![1, 0, 0, 0], list)
+}
+
+/// The parity of all but so many of the list's last questions, and that these are true.
+fn parity_and_last(list: &[u32], last: usize) -> Vec<u32> {
+    let (others, last) = list.split_at(list.len() - 2 * last);
+    and_all(parity_rule(others), last)
 }
 
 fn opened(survey: &Survey, room: usize) -> Vec<u32> {
@@ -235,6 +259,7 @@ fn rows() -> Vec<Row> {
     let mut rows = small_rows();
     rows.extend(build_rows());
     rows.extend(handle_rows());
+    rows.extend(blank_rows());
     rows.extend(growth_rows());
     rows.extend(check_rows());
     rows
@@ -311,6 +336,65 @@ fn handle_rows() -> Vec<Row> {
         tangled_row("verdict", |operations, store, [a, _, _]| operations.verdict(store, a).number),
         tangled_row("example", |operations, store, [a, _, _]| operations.example(store, a, &mut [0; 6]).number),
         tangled_row("read", |operations, store, [a, _, _]| operations.read(store, a, &[1, 0, 2, 1, 1, 0]).number),
+        tangled_row("read, one field blank", |operations, store, [a, _, _]| {
+            operations.read(store, a, &[1, 0, 2, BLANK, 1, 0]).number
+        }),
+        tangled_row("read, all fields blank", |operations, store, [a, _, _]| {
+            operations.read(store, a, &[BLANK; 6]).number
+        }),
+    ]
+}
+
+/// Reads a sheet, of which no filling satisfies the rule.
+fn reading_never(survey: Survey, rule: Vec<u32>, sheet: [u16; 16]) -> Run {
+    let mut store = opened(&survey, MOST_ENTRIES);
+    let built = Fast.build(&mut store, &rule);
+    assert!(built.number == 0 && built.result > 1);
+    Box::new(move |operations| {
+        let start = Instant::now();
+        let answer = operations.read(black_box(&store), built.result, &sheet);
+        let time = start.elapsed();
+        assert_eq!((answer.number, answer.result), (0, 0));
+        time
+    })
+}
+
+/// A sheet of 16 fields on which these alone were counted.
+fn counted<const N: usize>(counts: [(usize, u16); N]) -> [u16; 16] {
+    let mut sheet = [BLANK; 16];
+    for (field, count) in counts {
+        sheet[field - 1] = count;
+    }
+    sheet
+}
+
+fn blank_rows() -> Vec<Row> {
+    const GROUP: &str =
+        "Reading where no filling satisfies the rule, so that every way is walked: 16 fields, 20 questions";
+    vec![
+        row(
+            GROUP,
+            "parity of 19 questions over fields 1 to 15, and 16 = 0; field 16 counted 5, the others blank",
+            || {
+                let survey = wide();
+                let rule = parity_and_last(&survey.list, 1);
+                reading_never(survey, rule, counted([(16, 5)]))
+            },
+        ),
+        row(GROUP, "the same with fields 1 to 15 in a chain", || {
+            let survey = chain_beside_one();
+            let rule = parity_and_last(&survey.list, 1);
+            reading_never(survey, rule, counted([(16, 5)]))
+        }),
+        row(
+            GROUP,
+            "parity of 18 questions over fields 1 to 13, and 16 = 14 and 16 = 15; 14 counted 5, 15 counted 9",
+            || {
+                let survey = wide_beside_three();
+                let rule = parity_and_last(&survey.list, 2);
+                reading_never(survey, rule, counted([(14, 5), (15, 9)]))
+            },
+        ),
     ]
 }
 

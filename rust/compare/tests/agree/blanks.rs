@@ -100,7 +100,7 @@ fn meet(comparison: &mut Comparison, sheet: &[u16], result: u32, verdict: u32, m
             comparison.meet(occasion::BLANKS_AT_THE_EDGE[result as usize]);
         }
         if result != 2 && verdict == 2 {
-            comparison.meet(occasion::VERDICT_KEPT_OUT);
+            comparison.meet(occasion::COUNTS_DECIDE);
         }
     }
 }

@@ -399,6 +399,7 @@ fn blanks(comparison: &mut Comparison) {
         ([0, 4], 0),
         ([BLANK, 65534], 2),
         ([65534, 65534], 0),
+        ([65532, BLANK], 2),
     ];
     readings(comparison, &store, 2, &sheets);
     for leaf in [0, 1] {
@@ -409,6 +410,12 @@ fn blanks(comparison: &mut Comparison) {
         answer(comparison, &wrong, 23, 0);
     }
     readings(comparison, &[0, 0, 0, 0], 1, &[([], 1)]);
+    // The same beside a field that no question names, in both orders.
+    for order in ORDERS {
+        let beside = [3, 1, 1, order, 2, 97, 1, 1, 0];
+        let sheets = [([0, 3, BLANK], 1), ([0, 4, BLANK], 0), ([BLANK, 2, BLANK], 0), ([0, BLANK, 3], 2)];
+        readings(comparison, &beside, 2, &sheets);
+    }
     // Case 11's rule, and one that is always true though a path leads to never.
     let neither = [1, 2, 2, 0, 1, 0, 1, 32, 2, 0, 1, 1, 0, 2];
     readings(comparison, &neither, 3, &[([BLANK], 2), ([65534], 1)]);
