@@ -1,4 +1,5 @@
-// What verdict, example, read and write back must answer; by meaning, where the grid covers the store's list.
+// What verdict, example, read and write back must answer; by meaning, where the grid covers the store's list, and of read where its fillings are few.
+use crate::fillings::Fillings;
 use crate::grid::Sheet;
 use crate::layout::Store;
 use crate::refusals::Refusal;
@@ -6,13 +7,9 @@ use crate::verdicts::Verdict;
 
 pub fn expect_verdict(store: Store<'_>, handle: u32) -> Result<Verdict, Refusal> {
     store.check_handle(handle)?;
-    if store.first_sheet(handle, true).is_none() {
-        return Ok(Verdict::Never);
-    }
-    Ok(match store.first_sheet(handle, false) {
-        None => Verdict::Always,
-        Some(_) => Verdict::Sometimes,
-    })
+    let satisfied = store.first_sheet(handle, true).is_some();
+    let broken = store.first_sheet(handle, false).is_some();
+    Ok(Verdict::of(satisfied, broken))
 }
 
 // A slice for a sheet.
@@ -24,9 +21,17 @@ fn check_sheet(store: Store<'_>, handle: u32, length: usize) -> Result<(), Refus
     Ok(())
 }
 
-pub fn expect_read(store: Store<'_>, handle: u32, sheet: &[u16]) -> Result<bool, Refusal> {
-    check_sheet(store, handle, sheet.len())?;
-    Ok(store.truth(handle, sheet))
+// What a handle is over all fillings of a sheet. None where there are too many to try: the evaluator doesn't know it then.
+pub fn expect_read(
+    store: Store<'_>,
+    handle: u32,
+    sheet: &[u16],
+) -> Option<Result<Verdict, Refusal>> {
+    if let Err(refusal) = check_sheet(store, handle, sheet.len()) {
+        return Some(Err(refusal));
+    }
+    let fillings = Fillings::of(store, sheet)?;
+    Some(Ok(fillings.verdict(handle)))
 }
 
 // The least sheet that satisfies a handle, into a slice of so many counts.

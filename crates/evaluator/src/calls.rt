@@ -28,15 +28,15 @@ impl Call<'_> {
         }
     }
 
-    // The meaning of a call at a sheet.
-    pub fn truth(self, store: Store<'_>, sheet: &[u16]) -> bool {
+    // The meaning of a call under a choice of counts.
+    pub fn truth(self, store: Store<'_>, counts: &[u32]) -> bool {
         match self {
-            Call::Build(table) => rule_truth(table, sheet),
-            Call::Negate(a) => !store.truth(a, sheet),
-            Call::Join(a, b) => store.truth(a, sheet) && store.truth(b, sheet),
+            Call::Build(table) => rule_truth(table, counts),
+            Call::Negate(a) => !store.truth(a, counts),
+            Call::Join(a, b) => store.truth(a, counts) && store.truth(b, counts),
             Call::Choose(a, b, c) => {
-                let chosen = if store.truth(a, sheet) { b } else { c };
-                store.truth(chosen, sheet)
+                let chosen = if store.truth(a, counts) { b } else { c };
+                store.truth(chosen, counts)
             }
         }
     }

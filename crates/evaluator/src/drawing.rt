@@ -3,6 +3,7 @@
 ghost use Rattle.std.specs.Prelude.{◌+◌, ◌<◌, ◌^◌, length};
 
 use crate::calls::Call;
+use crate::counts::counts_of;
 use crate::entries::{Entry, put_entry};
 use crate::equations::Equations;
 use crate::grid::MOST_DRAWN;
@@ -15,12 +16,12 @@ const WAYS: usize = 1 << MOST_DRAWN;
 // The leaf of each way, question 1 being the highest digit; none where no sheet answers so. An array, since there is a place for each way.
 type Ways = [Option<bool>; WAYS];
 
-// What a sheet answers to the questions, as one number; of more questions than diagrams are drawn for, to the last ones.
-fn way_of(store: Store<'_>, sheet: &[u16]) -> usize
+// What counts answer to the questions, as one number; of more questions than diagrams are drawn for, to the last ones.
+fn way_of(store: Store<'_>, counts: &[u32]) -> usize
     ensures { result < 256 }
 {
     let way = Equations(store.list()).fold(0, |way, question| {
-        (way << 1) | usize::from(question.holds(sheet))
+        (way << 1) | usize::from(question.holds(counts))
     });
     way % WAYS
 }
@@ -28,8 +29,8 @@ fn way_of(store: Store<'_>, sheet: &[u16]) -> usize
 fn ways_of(store: Store<'_>, call: Call<'_>) -> Ways {
     let mut ways = [None; WAYS];
     for number in 0..store.sheets() {
-        let sheet = store.sheet(number);
-        ways[way_of(store, &sheet)] = Some(call.truth(store, &sheet));
+        let counts = counts_of(&store.sheet(number));
+        ways[way_of(store, &counts)] = Some(call.truth(store, &counts));
     }
     ways
 }

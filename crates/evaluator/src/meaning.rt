@@ -1,11 +1,12 @@
 // Meanings at all sheets of the grid.
 use crate::calls::Call;
+use crate::counts::counts_of;
 use crate::layout::Store;
 
 impl Store<'_> {
     // The meaning of a handle at a sheet of the grid.
     fn truth_at(self, handle: u32, number: u32) -> bool {
-        self.truth(handle, &self.sheet(number))
+        self.truth(handle, &counts_of(&self.sheet(number)))
     }
 
     // The number of the first sheet at which a handle has a truth.
@@ -22,8 +23,8 @@ impl Store<'_> {
     pub fn differences(self, call: Call<'_>, handle: u32) -> usize {
         (0..self.sheets())
             .filter(|number| {
-                let sheet = self.sheet(*number);
-                self.truth(handle, &sheet) != call.truth(self, &sheet)
+                let counts = counts_of(&self.sheet(*number));
+                self.truth(handle, &counts) != call.truth(self, &counts)
             })
             .count()
     }

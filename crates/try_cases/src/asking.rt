@@ -21,7 +21,7 @@ pub fn verdict(rt: &impl Print, store: &[u32], handle: u32) -> io::Result<()> {
     print!(rt; "{}{remark}", Answered(found))
 }
 
-// A sheet is read by the entries alone, so the evaluator knows each answer. No count of the script is above 65,535.
+// A sheet is read by the entries alone, whatever the list. No count of the script is above 65,535.
 pub fn read(
     rt: &(impl Print + AllocGlobal),
     store: &[u32],
@@ -33,8 +33,10 @@ pub fn read(
         .map(|count| u16::try_from(*count).unwrap_or(u16::MAX))
         .collect(rt.alloc())?;
     let found = sheet_read(store, handle, sheet.as_slice());
-    let expected = expect_read(Store(store), handle, sheet.as_slice()).map(u32::from);
-    let remark = Remark::of(true, is_same(found, expected));
+    let remark = match expect_read(Store(store), handle, sheet.as_slice()) {
+        Some(expected) => Remark::of(true, is_same(found, expected.map(u32::from))),
+        None => Remark::Unknown,
+    };
     print!(rt; "{}{remark}", Answered(found))
 }
 

@@ -5,7 +5,7 @@ ghost use Rattle.std.specs.Prelude.{◌≤◌};
 use crate::calls::throw_handle;
 use crate::chance::Chance;
 use crate::run::Run;
-use evaluator::{Store, expect_example, expect_read, expect_verdict, first, is_example};
+use evaluator::{BLANK, Store, expect_example, expect_read, expect_verdict, first, is_example};
 use sheet::{sheet_example, sheet_read, sheet_verdict};
 
 pub fn ask_verdict(run: &mut Run, store: Store<'_>, handle: u32) {
@@ -15,11 +15,17 @@ pub fn ask_verdict(run: &mut Run, store: Store<'_>, handle: u32) {
     );
 }
 
+// No sheet is thrown that has more fillings than the evaluator tries. If one had, that would count as a difference, and the answer be passed over.
 pub fn ask_read(run: &mut Run, store: Store<'_>, handle: u32, sheet: &[u16]) {
-    run.expect_answer(
-        sheet_read(store.0, handle, sheet),
-        expect_read(store, handle, sheet).map(u32::from),
-    );
+    let found = sheet_read(store.0, handle, sheet);
+    let expected = expect_read(store, handle, sheet);
+    run.agree(expected.is_some());
+    if let Some(expected) = expected {
+        run.expect_answer(found, expected.map(u32::from));
+    }
+    if found.number == 0 && sheet.contains(&BLANK) {
+        run.blanks.count(found.result);
+    }
 }
 
 fn compare_example(run: &mut Run, store: Store<'_>, handle: u32, counts: &mut [u16]) {
@@ -55,10 +61,10 @@ fn throw_gap(chance: &mut Chance, store: Store<'_>) -> u32 {
     store.question(k).gap()
 }
 
-// A count in the grid or far beyond it, to the largest.
+// A count in the grid or far beyond it, to the largest; now and then a blank.
 fn throw_count(chance: &mut Chance, store: Store<'_>) -> u16 {
     let count = match chance.below(8) {
-        0 => 65535,
+        0 => u32::from(BLANK),
         1 => chance.from_on(65520, 16),
         2 => chance.below(32768),
         3 | 4 => throw_gap(chance, store),

@@ -3,7 +3,7 @@ use crate::chance::Chance;
 use crate::comparing::try_on;
 use crate::rules::throw_table;
 use crate::run::Run;
-use evaluator::{Call, Side, Store, first};
+use evaluator::{Call, Side, Store, counts_of, first};
 use sheet::sheet_read;
 
 // Any handle of the store, now and then one that it has not.
@@ -34,9 +34,8 @@ fn throw_call<'a>(chance: &mut Chance, store: Store<'_>, table: &'a [u32]) -> Ca
 // What read answers for the diagram of an accepted call, at a sheet of the grid.
 fn compare_read(run: &mut Run, store: Store<'_>, call: Call<'_>, handle: u32, number: u32) {
     let sheet = store.sheet(number);
-    let counts = first(&sheet, store.fields() as usize);
-    let found = sheet_read(store.0, handle, counts);
-    let truth = call.truth(store, &sheet);
+    let found = sheet_read(store.0, handle, first(&sheet, store.fields() as usize));
+    let truth = call.truth(store, &counts_of(&sheet));
     run.expect_answer(found, Ok(u32::from(truth)));
 }
 

@@ -31,7 +31,7 @@ use crate::hostile::{try_all_broken, try_all_cut};
 use crate::limits::try_limits;
 use crate::logger_limits::try_logger_limits;
 use crate::logging::logger_rounds;
-use crate::printing::{print_met, print_part, print_raw, print_sides, print_stores};
+use crate::printing::{print_blanks, print_met, print_part, print_raw, print_sides, print_stores};
 use crate::raw_openings::raw_rounds;
 use crate::rounds::{list_rounds, store_rounds};
 use crate::run::Run;
@@ -46,7 +46,8 @@ fn run_generated(rt: &impl Print, run: &mut Run) -> io::Result<()> {
     print_part(rt, run, "lists")?;
     store_rounds(run);
     print_part(rt, run, "calls")?;
-    print_stores(rt, run)
+    print_stores(rt, run)?;
+    print_blanks(rt, run)
 }
 
 // What is made by hand.

@@ -3,6 +3,7 @@ use crate::raw_openings::RawTally;
 use crate::run::Run;
 use crate::sides::{Agreed, Sides};
 use crate::tally::Tally;
+use evaluator::first;
 use std::io;
 
 // The comparisons of a part; the two counts then start anew.
@@ -32,6 +33,14 @@ pub fn print_stores(rt: &impl Print, run: &Run) -> io::Result<()> {
         let stores = generated.stores;
         let in_one = generated.in_one;
         println!(rt; "stores in order {order}: {stores}, with a list in no other order: {in_one}")?;
+    }
+    Ok(())
+}
+
+// How often sheets with blanks had each result.
+pub fn print_blanks(rt: &impl Print, run: &Run) -> io::Result<()> {
+    for (result, times) in first(run.blanks.times(), 3).iter().enumerate() {
+        println!(rt; "sheets with blanks, result {result}: {times}")?;
     }
     Ok(())
 }

@@ -21,6 +21,8 @@ pub struct Run {
     pub met: Tally,
     // the stores that were generated, by their order
     pub stores: [Generated; 2],
+    // how often reading a sheet with blanks had a result
+    pub blanks: Tally,
     // the handles of the ledger
     pub ledger: Words<32>,
     pub sides: Sides,
@@ -35,6 +37,7 @@ impl Run {
             differ: 0,
             met: Tally::default(),
             stores: [Generated::default(); 2],
+            blanks: Tally::default(),
             ledger: Words::new(),
             sides: Sides::default(),
             raw: RawTally::default(),

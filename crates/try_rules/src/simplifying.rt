@@ -1,17 +1,17 @@
-// Simplify, against the evaluator: its refusal, the form of its question, and its truth at sheets.
+// Simplify, against the evaluator: its refusal, the form of its question, and its truth under choices of counts.
 use crate::chance::Chance;
 use crate::run::Run;
-use evaluator::{Equation, Limits, MOST_STEPS, Refusal, Sheet, field, put, steps};
+use evaluator::{Counts, Equation, Limits, MOST_STEPS, Refusal, field, put, steps};
 use sheet::sheet_simplify;
 use terms::SimplifyAnswer;
 
-// A sheet of small counts in all sixteen fields.
-fn throw_sheet(chance: &mut Chance) -> Sheet {
-    let mut sheet = [0; 16];
-    for count in &mut sheet {
-        *count = u16::try_from(chance.below(5)).unwrap_or(0);
+// Small counts in all sixteen fields.
+fn throw_counts(chance: &mut Chance) -> Counts {
+    let mut counts = [0; 16];
+    for count in &mut counts {
+        *count = chance.below(5);
     }
-    sheet
+    counts
 }
 
 // A number of steps: a few, any up to the limit, or some near 255 or near the limit.
@@ -49,18 +49,18 @@ fn question_of(a: SimplifyAnswer) -> Equation {
     }
 }
 
-// The truth at a sheet of what an equation was simplified to.
-fn truth(a: SimplifyAnswer, sheet: &Sheet) -> bool {
+// The truth of what an equation was simplified to.
+fn truth(a: SimplifyAnswer, counts: &Counts) -> bool {
     match a.result {
         1 => true,
-        2 => question_of(a).holds(sheet),
+        2 => question_of(a).holds(counts),
         _ => false,
     }
 }
 
-// A sheet at which an equation is true, if there is one: all counts are 0 but that of the side with fewer steps, which is as much as these lack.
-fn meeting(equation: Equation) -> Sheet {
-    let mut sheet = [0; 16];
+// Counts that satisfy an equation, if there are any: all are 0 but that of the side with fewer steps, which is as much as these lack.
+fn meeting(equation: Equation) -> Counts {
+    let mut counts = [0; 16];
     let lack = steps(equation.left).abs_diff(steps(equation.right));
     let side = if steps(equation.left) < steps(equation.right) {
         equation.left
@@ -68,25 +68,21 @@ fn meeting(equation: Equation) -> Sheet {
         equation.right
     };
     if let Some(place) = field(side).checked_sub(1) {
-        put(
-            &mut sheet,
-            place as usize,
-            u16::try_from(lack).unwrap_or(u16::MAX),
-        );
+        put(&mut counts, place as usize, lack);
     }
-    sheet
+    counts
 }
 
-// Whether an equation and what it was simplified to are alike at a sheet.
-fn compare_at(run: &mut Run, equation: Equation, a: SimplifyAnswer, sheet: Sheet) {
-    run.agree(equation.holds(&sheet) == truth(a, &sheet));
+// Whether an equation and what it was simplified to are alike under a choice of counts.
+fn compare_under(run: &mut Run, equation: Equation, a: SimplifyAnswer, counts: Counts) {
+    run.agree(equation.holds(&counts) == truth(a, &counts));
 }
 
-fn compare_sheets(run: &mut Run, equation: Equation, a: SimplifyAnswer) {
-    compare_at(run, equation, a, meeting(equation));
+fn compare_truths(run: &mut Run, equation: Equation, a: SimplifyAnswer) {
+    compare_under(run, equation, a, meeting(equation));
     for _ in 0..12 {
-        let sheet = throw_sheet(&mut run.chance);
-        compare_at(run, equation, a, sheet);
+        let counts = throw_counts(&mut run.chance);
+        compare_under(run, equation, a, counts);
     }
 }
 
@@ -102,7 +98,7 @@ fn compare_equation(run: &mut Run, equation: Equation) {
     };
     run.expect_number(a.number, expected);
     if expected.is_ok() {
-        compare_sheets(run, equation, a);
+        compare_truths(run, equation, a);
     }
 }
 
