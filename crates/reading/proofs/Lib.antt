@@ -4,4 +4,5 @@ pub mod SameReading
 pub mod CountedSheet
 pub mod BlankSheet
 pub mod CountWays
+pub mod FollowWays
 pub mod ReadWays

@@ -1,5 +1,5 @@
 // What reading answers, why a sheet is not read, and the documents' numbers for both.
-ghost use Rattle.std.specs.Prelude.{◌≡◌};
+ghost use Rattle.std.specs.Prelude.{◌≡◌, cond};
 ghost use Rattle.reading.specs.Read as spec;
 
 use terms::Refusal;
@@ -20,6 +20,19 @@ impl From<Reading> for u32 {
             Reading::Fails => 0,
             Reading::Satisfies => 1,
             Reading::Depends => 2,
+        }
+    }
+}
+
+// Of a sheet on which every field was counted.
+impl From<bool> for Reading {
+    fn from(satisfies: bool) -> Reading
+        ensures { result ≡ cond satisfies Reading.Satisfies Reading.Fails }
+    {
+        if satisfies {
+            Reading::Satisfies
+        } else {
+            Reading::Fails
         }
     }
 }

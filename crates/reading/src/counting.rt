@@ -7,7 +7,7 @@ use facts::{Fact, Facts, add, has_count, no_facts};
 use terms::Field;
 
 // A field with this count was not counted.
-const BLANK: u16 = 65535;
+pub const BLANK: u16 = 65535;
 
 // A fact for each counted field. No fact so far names the field, so whatever it counts fits them.
 pub fn facts_of(sheet: &[u16]) -> Facts

@@ -3,7 +3,9 @@
 
 mod answer;
 mod counting;
+mod following;
 mod reading;
 
 pub use answer::{ReadFault, Reading, read_result};
+pub use following::read_sound;
 pub use reading::{read, read_within};

@@ -5,7 +5,8 @@ ghost use Rattle.terms.specs.Limits as limit;
 ghost use Rattle.terms.specs.Needs.{FitLimits};
 
 use crate::answer::{ReadFault, Reading};
-use crate::counting::facts_of;
+use crate::counting::{BLANK, facts_of};
+use crate::following::read_sound;
 use soundness::is_sound;
 use store::{field_count, has_handle, wide};
 use terms::{Limits, limits_of_store};
@@ -31,6 +32,10 @@ pub fn read_within(
     }
     if sheet.len() != wide(field_count(s)) {
         return Err(ReadFault::WrongLength);
+    }
+    // Such a sheet answers each question itself: without facts it is read in half the time.
+    if !sheet.contains(&BLANK) {
+        return Ok(Reading::from(read_sound(s, handle, sheet)));
     }
     let leaves = leaves_from(s, wide(handle), facts_of(sheet));
     Ok(leaves.pick(Reading::Fails, Reading::Satisfies, Reading::Depends))
