@@ -8,23 +8,23 @@ abbrev not_counted : ℕ
 not_counted = 65535
 
 -- a sheet, and the result that reading it must have
-pub record Reading : Type 0 where
+pub record ReadSheet : Type 0 where
   pub sheet : List ℕ
   pub result : ℕ
 
-abbrev reads_as : List ℕ → ℕ → Reading
+abbrev reads_as : List ℕ → ℕ → ReadSheet
 reads_as sheet result = record { sheet = sheet; result = result }
 
-abbrev calls_of : ℕ → List Reading → List CaseCall
+abbrev calls_of : ℕ → List ReadSheet → List CaseCall
 calls_of handle [] = []
 calls_of handle (r ∷ rs) = read handle r.sheet ∷ calls_of handle rs
 
-abbrev outcomes_of : List ℕ → List Reading → List CaseOutcome
+abbrev outcomes_of : List ℕ → List ReadSheet → List CaseOutcome
 outcomes_of s [] = []
 outcomes_of s (r ∷ rs) = answered 0 r.result s r.sheet ∷ outcomes_of s rs
 
 -- sheets read one after the other against a handle of a store
-abbrev readings : List ℕ → ℕ → List Reading → Case
+abbrev readings : List ℕ → ℕ → List ReadSheet → Case
 readings s handle rs = record { start = s; calls = calls_of handle rs; expected = outcomes_of s rs }
 
 -- n = 2 and 2 = S3(1), which is handle 2
@@ -35,7 +35,7 @@ three_more = 2 ∷ 1 ∷ 1 ∷ 0 ∷ 2 ∷ 97 ∷ 1 ∷ 1 ∷ 0 ∷ []
 -- be 65,531.
 abbrev blanks_at_the_edge : Case
 blanks_at_the_edge =
-    let sheets : List Reading =
+    let sheets : List ReadSheet =
     reads_as (65534 ∷ not_counted ∷ []) 2 ∷ reads_as (not_counted ∷ 2 ∷ []) 0 ∷ reads_as (not_counted ∷ 3 ∷ []) 2 ∷ reads_as (not_counted ∷ not_counted ∷ []) 2
     ∷ reads_as (0 ∷ 3 ∷ []) 1 ∷ reads_as (0 ∷ 4 ∷ []) 0 ∷ reads_as (not_counted ∷ 65534 ∷ []) 2 ∷ reads_as (65534 ∷ 65534 ∷ []) 0
     ∷ reads_as (65532 ∷ not_counted ∷ []) 2 ∷ [] in
@@ -44,7 +44,7 @@ blanks_at_the_edge =
 -- The same with a third field, which no question names: two counts may settle the rule beside its blank, and one beside two. In the older order too.
 abbrev blanks_beside_counts : List Case
 blanks_beside_counts =
-    let sheets : List Reading =
+    let sheets : List ReadSheet =
     reads_as (0 ∷ 3 ∷ not_counted ∷ []) 1 ∷ reads_as (0 ∷ 4 ∷ not_counted ∷ []) 0 ∷ reads_as (not_counted ∷ 2 ∷ not_counted ∷ []) 0
     ∷ reads_as (0 ∷ not_counted ∷ 3 ∷ []) 2 ∷ [] in
     let in_order : ℕ → Case = λ order. readings (3 ∷ 1 ∷ 1 ∷ order ∷ 2 ∷ 97 ∷ 1 ∷ 1 ∷ 0 ∷ []) 2 sheets in
@@ -53,7 +53,7 @@ blanks_beside_counts =
 -- Handle 1 is satisfied by every filling of every sheet, handle 0 by none.
 abbrev blanks_and_leaves : List Case
 blanks_and_leaves =
-    let sheets : ℕ → List Reading = λ b. reads_as (65534 ∷ not_counted ∷ []) b ∷ reads_as (not_counted ∷ not_counted ∷ []) b ∷ reads_as (0 ∷ 4 ∷ []) b ∷ [] in
+    let sheets : ℕ → List ReadSheet = λ b. reads_as (65534 ∷ not_counted ∷ []) b ∷ reads_as (not_counted ∷ not_counted ∷ []) b ∷ reads_as (0 ∷ 4 ∷ []) b ∷ [] in
     readings three_more 1 (sheets 1) ∷ readings three_more 0 (sheets 0) ∷ readings (replicate 4 0) 1 (reads_as [] 1 ∷ []) ∷ readings (replicate 4 0) 0 (reads_as [] 0 ∷ []) ∷ []
 
 -- Case 11's store: neither 0 nor 1. A blank may be 0, where 65,534 may not.
@@ -71,7 +71,7 @@ abbrev blanks_joined : Case
 blanks_joined =
     let rule : List ℕ = 2 ∷ 3 ∷ 2 ∷ 0 ∷ 2 ∷ 3 ∷ 1 ∷ 0 ∷ 4 ∷ 0 ∷ 1 ∷ 0 ∷ [] in
     let s : List ℕ = 3 ∷ 3 ∷ 2 ∷ 0 ∷ 2 ∷ 1 ∷ 3 ∷ 1 ∷ 3 ∷ 2 ∷ 2 ∷ 1 ∷ 0 ∷ 1 ∷ 2 ∷ 0 ∷ [] in
-    let sheets : List Reading =
+    let sheets : List ReadSheet =
     reads_as (7 ∷ 8 ∷ not_counted ∷ []) 0 ∷ reads_as (7 ∷ 7 ∷ not_counted ∷ []) 2 ∷ reads_as (not_counted ∷ 8 ∷ 7 ∷ []) 0 ∷ reads_as (7 ∷ not_counted ∷ 7 ∷ []) 2
     ∷ reads_as (not_counted ∷ not_counted ∷ 7 ∷ []) 2 ∷ reads_as (7 ∷ 7 ∷ 7 ∷ []) 1 ∷ reads_as (replicate 3 not_counted) 2 ∷ [] in
     record {

@@ -20,7 +20,7 @@ use Rattle.store.specs.Sound.{sound}
 use Rattle.terms.specs.declared.limits.Limits.{Limits}
 use Rattle.terms.specs.Limits.{store_limits}
 use Rattle.examples.proofs.ExampleFirst.{example_answers}
-use Rattle.examples.proofs.ExampleWithinLimits.{written_sound, written_handle, example_within_limits, public_example_within}
+use Rattle.examples.proofs.ExampleWithinLimits.{written_sound, example_within_limits, public_example_within}
 use Rattle.reading.proofs.CountedSheet.{counted_reads}
 
 module _ (limits : Limits) (low : count_bound limits.terms < blank) (s : List ℕ) (handle : ℕ) (out : List ℕ) where
@@ -43,7 +43,7 @@ module _ (limits : Limits) (low : count_bound limits.terms < blank) (s : List �
     -- reading what is written answers 1
     pub example_reads : read_sheet limits s handle o.words ≡ Ok Satisfies
     example_reads =
-        counted_reads limits s is handle (written_handle limits s handle out w) o.words written.right_length example_no_blank
+        counted_reads limits s is handle written.has_handle o.words written.right_length example_no_blank
         ∙ ap (λ t. Ok (cond t Satisfies Fails)) written.satisfies
 
 -- at the institute's limits no count is 65,535: the largest is at most 16,384

@@ -58,18 +58,13 @@ module _ (limits : Limits) (s : List ℕ) (handle : ℕ) (out : List ℕ) where
   abbrev o : Outcome Example
   o = example limits s handle out
 
-  -- only of a handle of a sound store is anything written
+  -- only in a sound store is anything written
   pub written_sound : o.answer ≡ Ok tt → sound limits s ≡ true
   unfolding example
   written_sound =
       by_test (λ t. (cond t (cond (is_handle s handle) (cond (eqb (length out) (field_count s)) (given (best_sheet s handle) out) (outcome (Err WrongLength) out))
       (outcome (Err NoHandle) out)) (outcome (Err NotSound) out)).answer ≡ Ok tt → t ≡ true)
       (sound limits s) (λ _ _. refl) (λ _ (e : ◌≡◌ {A = Example} (Err NotSound) (Ok tt)). absurd (cc))
-
-  pub written_handle : o.answer ≡ Ok tt → is_handle s handle ≡ true
-  unfolding example
-  written_handle w = by_test (λ t. t ≡ true) (is_handle s handle) (λ _. refl)
-      (λ n. absurd (let refused = rw (written_sound w, n) at w in cc))
 
   -- No count of an accepted example exceeds the largest field times one more than the largest step count.
   pub example_within_limits : o.answer ≡ Ok tt → (i : ℕ) → i < field_count s → get_or o.words i 0 ≤ count_bound limits.terms

@@ -33,7 +33,7 @@ pub fn read_within(
     if sheet.len() != wide(field_count(s)) {
         return Err(ReadFault::WrongLength);
     }
-    // Such a sheet answers each question itself: without facts it is read in half the time.
+    // A sheet without blanks answers each question itself: it needs no facts, and is read faster without them.
     if !sheet.contains(&BLANK) {
         return Ok(Reading::from(read_sound(s, handle, sheet)));
     }

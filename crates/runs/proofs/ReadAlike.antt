@@ -12,17 +12,17 @@ use Rattle.store.proofs.SoundFacts.{sound_says}
 use Rattle.store.proofs.SoundTree.{meaning_entry}
 use Rattle.reading.proofs.SameReading.{same_reading}
 
-abbrev short_list : List ℕ
-short_list = 2 ∷ 1 ∷ 1 ∷ 0 ∷ 2 ∷ 97 ∷ 1 ∷ 1 ∷ 0 ∷ []
+abbrev one_question : List ℕ
+one_question = 2 ∷ 1 ∷ 1 ∷ 0 ∷ 2 ∷ 97 ∷ 1 ∷ 1 ∷ 0 ∷ []
 
-abbrev long_list : List ℕ
-long_list = 2 ∷ 2 ∷ 1 ∷ 0 ∷ 2 ∷ 1 ∷ 2 ∷ 97 ∷ 2 ∷ 1 ∷ 0 ∷ []
+abbrev two_questions : List ℕ
+two_questions = 2 ∷ 2 ∷ 1 ∷ 0 ∷ 2 ∷ 1 ∷ 2 ∷ 97 ∷ 2 ∷ 1 ∷ 0 ∷ []
 
-same_meanings : (v : Valuation) → meaning short_list 2 v ≡ meaning long_list 2 v
+same_meanings : (v : Valuation) → meaning one_question 2 v ≡ meaning two_questions 2 v
 unfolding operations_compute
 same_meanings v =
-    meaning_entry (sound_says store_limits short_list refl) 0 (omega arith) v ∙ sym (meaning_entry (sound_says store_limits long_list refl) 0 (omega arith) v)
+    meaning_entry (sound_says store_limits one_question refl) 0 (omega arith) v ∙ sym (meaning_entry (sound_says store_limits two_questions refl) 0 (omega arith) v)
 
-pub lists_read_alike : (sheet : List ℕ) → read_sheet store_limits short_list 2 sheet ≡ read_sheet store_limits long_list 2 sheet
+pub lists_read_alike : (sheet : List ℕ) → read_sheet store_limits one_question 2 sheet ≡ read_sheet store_limits two_questions 2 sheet
 unfolding operations_compute
-lists_read_alike = same_reading store_limits store_limits short_list long_list refl refl refl 2 2 refl refl same_meanings
+lists_read_alike = same_reading store_limits store_limits one_question two_questions refl refl refl 2 2 refl refl same_meanings

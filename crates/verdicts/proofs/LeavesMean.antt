@@ -21,18 +21,18 @@ use Rattle.verdicts.proofs.ReachedExact.{flag, reached_leads, leads_reached}
 
 -- every choice of counts that fits the facts gives a meaning this truth, or some does
 module _ (xs : List Fact) (means : Valuation → Bool) where
-  abbrev pub Every : Bool → Type 0
-  Every b = (v : Valuation) → Fits xs v → means v ≡ b
+  abbrev pub EveryFitting : Bool → Type 0
+  EveryFitting b = (v : Valuation) → Fits xs v → means v ≡ b
 
-  abbrev pub Some : Bool → Type 0
-  Some b = (v : Valuation) × Fits xs v × (means v ≡ b)
+  abbrev pub SomeFitting : Bool → Type 0
+  SomeFitting b = (v : Valuation) × Fits xs v × (means v ≡ b)
 
 module _ {limits : Limits} {s : List ℕ} (snd : Sound limits s) (handle : ℕ) (h : handle < used s + leaves) (xs : List Fact) (f : free (state_of xs) ≡ true) where
   abbrev l : Leaves
   l = reached (question s) (tree s handle) (state_of xs)
 
   -- a leaf that is reached is the meaning under some choice of counts
-  some_means : (b : Bool) → flag b l ≡ true → Some xs (meaning s handle) b
+  some_means : (b : Bool) → flag b l ≡ true → SomeFitting xs (meaning s handle) b
   some_means b e =
       let w = reached_leads (question s) (tree s handle) xs b f e in
       (w.0, w.1, meaning_is_tree snd handle h w.0 ∙ w.2)
@@ -44,8 +44,8 @@ module _ {limits : Limits} {s : List ℕ} (snd : Sound limits s) (handle : ℕ) 
 
   -- A claim about what is answered by the leaves holds if it holds of each answer, with what the answer says.
   pub by_leaves_says : {A : Type 0} (Claim : A → Type 0) (never always both : A)
-      → (Every xs (meaning s handle) false → Claim never) → (Every xs (meaning s handle) true → Claim always)
-      → (Some xs (meaning s handle) true → Some xs (meaning s handle) false → Claim both) → Claim (by_leaves never always both l)
+      → (EveryFitting xs (meaning s handle) false → Claim never) → (EveryFitting xs (meaning s handle) true → Claim always)
+      → (SomeFitting xs (meaning s handle) true → SomeFitting xs (meaning s handle) false → Claim both) → Claim (by_leaves never always both l)
   by_leaves_says Claim never always both on_never on_always on_both =
       by_test (λ a. Claim (cond a (cond l.never both always) never)) l.always
       (λ a. by_test (λ n. Claim (cond n both always)) l.never

@@ -9,7 +9,7 @@ use Rattle.terms.specs.Limits.{most_count}
 use Rattle.terms.specs.Needs.{FitLimits}
 
 -- A way down from a handle of a sound store: fewer questions have been answered no than the number of the handle's own question. The facts may have more steps
--- than the list's questions, as those of a sheet's counts do, up to so many.
+-- than the list's questions, as those of a sheet's counts do, but no more than `most`.
 pub record CanDescend (most : ℕ) (s : List ℕ) (handle : ℕ) (f : Facts) : Type 0 where
   pub limits : Limits
   pub fit : FitLimits limits

@@ -12,7 +12,9 @@ use compare::generate::{in_order, parity_rule, sound_entries, store_of, tangled_
 use compare::library::Library;
 use compare::normal_forms::{self, last, Entry};
 use compare::random::Random;
-use independent::{Fast, Operations, Term, BLANK, FIELDS_FIRST, FIRST_ENTRY, HEADING, MOST_ENTRIES, MOST_STEPS};
+use independent::{
+    Answer, Fast, Operations, Term, BLANK, FIELDS_FIRST, FIRST_ENTRY, HEADING, MOST_ENTRIES, MOST_STEPS,
+};
 
 /// A row's process is ended after this time.
 const MOST_TIME: Duration = Duration::from_secs(60);
@@ -239,16 +241,24 @@ fn simplifying() -> Run {
     })
 }
 
-/// Checks a table of diagrams whose root is its last entry. Nothing is written, so nothing has to be put back.
-fn checking(entries: &[Entry], number: u32) -> Run {
-    let (table, root) = (entries.concat(), last(entries));
+/// Runs that write nothing, so that nothing has to be put back: the call has to be answered rightly.
+fn asking(call: impl Fn(&dyn Operations) -> Answer + 'static, is_right: impl Fn(Answer) -> bool + 'static) -> Run {
     Box::new(move |operations| {
         let start = Instant::now();
-        let answer = operations.check_normal_form(black_box(&table), root);
+        let answer = call(operations);
         let time = start.elapsed();
-        assert_eq!(answer.number, number);
+        assert!(is_right(answer));
         time
     })
+}
+
+/// Checks a table of diagrams whose root is its last entry.
+fn checking(entries: &[Entry], number: u32) -> Run {
+    let (table, root) = (entries.concat(), last(entries));
+    asking(
+        move |operations| operations.check_normal_form(black_box(&table), root),
+        move |answer| answer.number == number,
+    )
 }
 
 fn row(group: &'static str, name: impl Into<String>, prepare: impl Fn() -> Run + 'static) -> Row {
@@ -350,13 +360,10 @@ fn reading_never(survey: Survey, rule: Vec<u32>, sheet: [u16; 16]) -> Run {
     let mut store = opened(&survey, MOST_ENTRIES);
     let built = Fast.build(&mut store, &rule);
     assert!(built.number == 0 && built.result > 1);
-    Box::new(move |operations| {
-        let start = Instant::now();
-        let answer = operations.read(black_box(&store), built.result, &sheet);
-        let time = start.elapsed();
-        assert_eq!((answer.number, answer.result), (0, 0));
-        time
-    })
+    asking(
+        move |operations| operations.read(black_box(&store), built.result, &sheet),
+        |answer| answer.number == 0 && answer.result == 0,
+    )
 }
 
 /// A sheet of 16 fields on which these alone were counted.
