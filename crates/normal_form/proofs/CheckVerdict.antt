@@ -9,7 +9,7 @@ use borrow.Author.Tests.{eq-eqb, ne_eqb}
 use lib.Dec.{eqb}
 use Rattle.terms.specs.Meaning.{Valuation}
 use Rattle.terms.proofs.Cases.{by_eq}
-use Rattle.std.specs.Prelude.{Ok, Err}
+use Rattle.std.specs.Prelude.{Ok}
 use Rattle.store.specs.declared.verdict.Verdict.TheVariants.{Never, Always, Sometimes}
 use Rattle.normal_form.specs.Accepted.{Accepted}
 use Rattle.normal_form.specs.Check.{root_verdict, check}

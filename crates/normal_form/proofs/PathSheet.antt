@@ -16,6 +16,7 @@ use Rattle.terms.specs.declared.term.Equation.{Equation}
 use Rattle.terms.specs.declared.term.Field.{Field}
 use Rattle.terms.specs.Meaning.{Valuation, count, value, truth}
 use Rattle.terms.proofs.Cases.{by_test, by_eq}
+use Rattle.terms.proofs.SimplifyTruth.{count_field}
 use Rattle.terms.proofs.Numbers.{equations_equal}
 use Rattle.terms.proofs.SimplifyForm.{smaller_right, bare_side, bare_left}
 use Rattle.normal_form.specs.KeptTable.{Asked}
@@ -92,10 +93,6 @@ counted P (x ∷ xs) o a f = elim (ℕ_discrete x.question.left.field.0 f.0) [
 ]
 
 -- ---- counts of a sheet
-count_nonzero : (v : Valuation) (f : Field) → f.0 ≢ 0 → count v f ≡ v f
-unfolding count
-count_nonzero v f n = simp (ne_eqb f.0 0 n)
-
 count_own : (v : Valuation) (f : Field) → v f ≡ f.0 * spacing → count v f ≡ f.0 * spacing
 unfolding count
 count_own v f e = by_eq (λ t. cond t 0 (v f) ≡ f.0 * spacing) f.0 0 (λ z. omega arith) (λ _. e)
@@ -130,7 +127,7 @@ module _ (x : Fact) (xs : List Fact) (o : Ordered (x ∷ xs)) where
   right_count v e = count_own v q.right.field (e ∙ low_field q.left.field.0 xs rises q.right.field (smaller_right q o.0.form))
 
   left_count : (v : Valuation) → count v q.left.field ≡ v q.left.field
-  left_count v = count_nonzero v q.left.field (omega (arith, smaller_right q o.0.form))
+  left_count v = count_field v q.left.field (omega (arith, smaller_right q o.0.form))
 
   yes_true : x.answer ≡ true → truth (sheet_of (x ∷ xs)) q ≡ true
   yes_true t =

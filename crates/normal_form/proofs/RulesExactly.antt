@@ -6,7 +6,6 @@ use mathlib.Core.Bool.{Bool, true, false, cond}
 use mathlib.Core.Logic.{◌≢◌, ◌↔◌}
 use mathlib.Core.List.{List}
 use native.Mathlib.Omega.{arith}
-use lib.Dec.{eqb}
 use Rattle.store.specs.Sound.{all_below}
 use Rattle.terms.proofs.Cases.{by_test}
 use Rattle.normal_form.specs.declared.answer.CheckFault.{CheckFault}
