@@ -5,6 +5,15 @@ pub mod Gap
 pub mod SimplifyCases
 pub mod SimplifyTruth
 pub mod SimplifyForm
+pub mod CaseTruth
+pub mod TermOrder
+pub mod CaseEnds
+pub mod CaseAnswer
+pub mod LineTests
+pub mod OneCase
+pub mod CaseOrForm
+pub mod AnyOrder
+pub mod WorkedCases
 pub mod TermKept
 pub mod GapRange
 pub mod Numbers

@@ -14,7 +14,7 @@ use Rattle.terms.specs.declared.term.Equation.{Equation}
 use Rattle.terms.specs.declared.term.Term.{Term}
 use Rattle.terms.specs.declared.simplification.Guard.{Guard}
 use Rattle.terms.specs.declared.simplification.Guard.TheVariants.{Never, Always, Question}
-use Rattle.terms.specs.Form.{is_simplified, SimplifiedForm, is_number, is_above, is_below}
+use Rattle.terms.specs.Form.{IfQuestion, InForm, is_simplified, SimplifiedForm, is_number, is_above, is_below}
 use Rattle.terms.specs.Simplify.{turned, larger_left, less_steps, lowered, never_or_question, simplify, gap}
 use Rattle.terms.proofs.Cases.{by_eq, by_lt}
 use Rattle.terms.proofs.Gap.{difference_abs}
@@ -23,7 +23,7 @@ use Rattle.terms.proofs.SimplifyTruth.{same_test}
 
 -- ---- the forms
 -- a question with one side bare and the larger field left has one of the forms
-by_numbers : (q : Equation) → q.right.field.0 < q.left.field.0 → min q.left.steps.0 q.right.steps.0 ≡ 0
+pub by_numbers : (q : Equation) → q.right.field.0 < q.left.field.0 → min q.left.steps.0 q.right.steps.0 ≡ 0
     → (q.right.field.0 ≡ 0 → q.left.steps.0 ≡ 0) → SimplifiedForm q
 by_numbers q h m z =
     elim (dec_le q.right.field.0 0) [
@@ -34,20 +34,14 @@ by_numbers q h m z =
       ]
     ]
 
--- what a guard is, if it is a question
-abbrev IfQuestion : (Equation → Type 0) → Guard → Type 0
-IfQuestion P Never = Unit {0}
-IfQuestion P Always = Unit {0}
-IfQuestion P (Question q) = P q
-
-settled_form : (d : Equation) → d.right.field.0 < d.left.field.0 → IfQuestion SimplifiedForm (never_or_question (lowered d))
+settled_form : (d : Equation) → d.right.field.0 < d.left.field.0 → InForm (never_or_question (lowered d))
 unfolding lowered
-settled_form d h = never_or_question_cases (IfQuestion SimplifiedForm) (lowered d) (λ _ _. tt) (λ z. by_numbers (lowered d) h (omega arith) z)
+settled_form d h = never_or_question_cases (InForm) (lowered d) (λ _ _. tt) (λ z. by_numbers (lowered d) h (omega arith) z)
 
-simplify_form : (e : Equation) → IfQuestion SimplifiedForm (simplify e)
-simplify_form e = simplify_cases (IfQuestion SimplifiedForm) e (λ _ _. tt) (λ _ _. tt) go
+pub simplify_form : (e : Equation) → InForm (simplify e)
+simplify_form e = simplify_cases InForm e (λ _ _. tt) (λ _ _. tt) go
   where
-    go : (d : Equation) → Sorted e d → IfQuestion SimplifiedForm (never_or_question (lowered d))
+    go : (d : Equation) → Sorted e d → InForm (never_or_question (lowered d))
     go d (kept h) = settled_form e h
     go d (swapped h) = settled_form (turned e) h
 

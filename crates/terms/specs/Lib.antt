@@ -4,5 +4,6 @@ pub mod Limits
 pub mod Meaning
 pub mod Simplify
 pub mod Form
+pub mod Lines
 pub mod Order
 pub mod Needs

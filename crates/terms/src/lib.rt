@@ -2,6 +2,7 @@
 #![tactic(auto)]
 
 mod limits;
+mod lines;
 mod order;
 mod question;
 mod refusal;

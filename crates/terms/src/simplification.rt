@@ -1,12 +1,13 @@
 // Simplifying an equation of two terms.
-ghost use Rattle.std.specs.Prelude.{◌≡◌, ◌<◌, ◌≤◌, ◌^◌, min};
+ghost use Rattle.std.specs.Prelude.{◌≡◌, ◌<◌, ◌^◌};
 ghost use Rattle.terms.specs.Needs.{HasWords};
 ghost use Rattle.terms.specs.Simplify as spec;
 ghost use Rattle.terms.specs.Limits as limit;
 
 use crate::limits::{TermLimits, term_limits};
+use crate::lines::one_case;
 use crate::refusal::Refusal;
-use crate::term::{Equation, Steps, Term, allows, word_of};
+use crate::term::{Equation, allows, word_of};
 
 // What an equation of two terms simplifies to.
 #[derive(Clone, Copy, Debug, PartialEq, Eq)]
@@ -48,68 +49,15 @@ pub struct SimplifyAnswer {
     pub gap: i32,
 }
 
-// The equation with its larger field on the left.
-#[tactic(auto, unfolding(crate::specs::Simplify::larger_left))]
-fn larger_left(e: Equation) -> Equation
-    ensures { result ≡ spec.larger_left e }
-{
-    if e.left.field.0 < e.right.field.0 {
-        Equation {
-            left: e.right,
-            right: e.left,
-        }
-    } else {
-        e
-    }
-}
-
-// A term with k steps taken off.
-fn less_steps(k: u32, t: Term) -> Term
-    requires { k ≤ t.steps.0 }
-    ensures { result ≡ spec.less_steps k t }
-{
-    Term {
-        field: t.field,
-        steps: Steps(t.steps.0 - k),
-    }
-}
-
-// The equation with its smaller step count taken from both sides.
-#[tactic(auto, unfolding(crate::specs::Simplify::lowered))]
-fn lowered(e: Equation) -> Equation
-    ensures { result ≡ spec.lowered e }
-{
-    let k = e.left.steps.0.min(e.right.steps.0);
-    Equation {
-        left: less_steps(k, e.left),
-        right: less_steps(k, e.right),
-    }
-}
-
-// Of two different fields, the larger on the left and one side with no steps: never, or a question.
-#[tactic(auto, unfolding(crate::specs::Simplify::never_or_question))]
-fn never_or_question(e: Equation) -> Guard
-    ensures { result ≡ spec.never_or_question e }
-{
-    if e.right.field.0 == 0 && 0 < e.left.steps.0 {
-        Guard::Never
-    } else {
-        Guard::Question(e)
-    }
-}
-
-// What an equation simplifies to, whatever its step counts.
-#[tactic(auto, unfolding(crate::specs::Simplify::simplify))]
+// What an equation simplifies to, whatever its step counts: one case after another, until none applies.
 pub fn simplify_equation(e: Equation) -> Guard
     ensures { result ≡ spec.simplify e }
 {
-    if e.left == e.right {
-        return Guard::Always;
+    let mut guard = Guard::Question(e);
+    while let Some(next) = one_case(guard) {
+        guard = next;
     }
-    if e.left.field == e.right.field {
-        return Guard::Never;
-    }
-    never_or_question(lowered(larger_left(e)))
+    guard
 }
 
 // A question's gap, right steps minus left steps.

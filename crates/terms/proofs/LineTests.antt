@@ -1,0 +1,118 @@
+-- A line applies to an equation exactly if its four numbers are as the line's left side has them: a line can be written at them, and says no less of them.
+use Prim.Native.Nat.{ℕ, ◌+◌, ◌-◌, ◌<◌}
+use mathlib.Core.Path.{◌≡◌, refl, subst}
+use mathlib.Core.Logic.{◌⊎◌, inl, inr}
+use mathlib.Core.Bool.{true}
+use native.Mathlib.Omega.{arith}
+use Rattle.terms.specs.declared.term.Equation.{Equation}
+use Rattle.terms.specs.declared.simplification.Guard.{Guard}
+use Rattle.terms.specs.declared.simplification.Guard.TheVariants.{Never, Always, Question}
+use Rattle.terms.specs.Form.{IfQuestion}
+use Rattle.terms.specs.Words.{equation}
+use Rattle.terms.specs.Simplify.{less_steps, turned}
+use Rattle.terms.specs.Lines.{S, S_times, bare, zero_itself, is_before, as_written, turned_round, written, line_1, line_2, line_3, line_4, line_5, Case, line_of, ByLine}
+use Rattle.terms.proofs.Numbers.{equations_equal}
+
+-- line k at an equation, and at one that is it
+at_equal : (k : ℕ) (p e : Equation) (h : Guard) → p ≡ e → ByLine k (Question p) h → ByLine k (Question e) h
+at_equal k p e h i b = subst (λ q. ByLine k (Question q) h) i b
+
+module _ (e : Equation) where
+  pub line_1_applies : e.left.field.0 ≡ e.right.field.0 → e.left.steps.0 ≡ 0 → e.right.steps.0 ≡ 0 → ByLine 1 (Question e) Always
+  line_1_applies f l r =
+      let p = equation (bare e.left.field) (bare e.left.field) in
+      at_equal 1 p e Always (equations_equal p e refl (omega arith) f (omega arith)) (line_1 e.left.field, refl)
+
+  pub line_2_applies : 0 < e.left.steps.0 → 0 < e.right.steps.0
+      → ByLine 2 (Question e) (Question (equation (less_steps 1 e.left) (less_steps 1 e.right)))
+  line_2_applies l r =
+      let y = less_steps 1 e.left in
+      let x = less_steps 1 e.right in
+      let p = equation (S y) (S x) in
+      at_equal 2 p e (Question (equation y x)) (equations_equal p e refl (omega arith) refl (omega arith)) (line_2 y x, refl)
+
+  pub line_3_applies : 0 < e.left.steps.0 → e.right.field.0 ≡ 0 → e.right.steps.0 ≡ 0 → ByLine 3 (Question e) Never
+  line_3_applies l f r =
+      let x = less_steps 1 e.left in
+      let p = written as_written (S x) zero_itself in
+      at_equal 3 p e Never (equations_equal p e refl (omega arith) (omega arith) (omega arith)) (line_3 x as_written, refl)
+
+  pub line_3_turned : 0 < e.right.steps.0 → e.left.field.0 ≡ 0 → e.left.steps.0 ≡ 0 → ByLine 3 (Question e) Never
+  line_3_turned r f l =
+      let x = less_steps 1 e.right in
+      let p = written turned_round (S x) zero_itself in
+      at_equal 3 p e Never (equations_equal p e (omega arith) (omega arith) refl (omega arith)) (line_3 x turned_round, refl)
+
+  pub line_4_applies : 0 < e.left.steps.0 → e.left.field.0 ≡ e.right.field.0 → e.right.steps.0 ≡ 0 → ByLine 4 (Question e) Never
+  line_4_applies l f r =
+      let x = e.left.field in
+      let m = e.left.steps.0 - 1 in
+      let p = written as_written (S_times (m + 1) x) (bare x) in
+      at_equal 4 p e Never (equations_equal p e refl (omega arith) f (omega arith)) (line_4 x m as_written, refl)
+
+  pub line_4_turned : 0 < e.right.steps.0 → e.left.field.0 ≡ e.right.field.0 → e.left.steps.0 ≡ 0 → ByLine 4 (Question e) Never
+  line_4_turned r f l =
+      let x = e.right.field in
+      let m = e.right.steps.0 - 1 in
+      let p = written turned_round (S_times (m + 1) x) (bare x) in
+      at_equal 4 p e Never (equations_equal p e (omega arith) (omega arith) refl (omega arith)) (line_4 x m turned_round, refl)
+
+  pub line_5_applies : is_before e.left e.right ≡ true → ByLine 5 (Question e) (Question (turned e))
+  line_5_applies b = (line_5 e.left e.right b, refl)
+
+-- what each line says of the numbers of an equation that it applies to
+abbrev BothHaveSteps : Equation → Type 0
+BothHaveSteps e = (0 < e.left.steps.0) × (0 < e.right.steps.0)
+
+abbrev SameAndBare : Equation → Type 0
+SameAndBare e = (e.left.field.0 ≡ e.right.field.0) × (e.left.steps.0 ≡ 0) × (e.right.steps.0 ≡ 0)
+
+abbrev ZeroAndSteps : Equation → Type 0
+ZeroAndSteps e =
+    ((0 < e.left.steps.0) × (e.right.field.0 ≡ 0) × (e.right.steps.0 ≡ 0)) ⊎ ((0 < e.right.steps.0) × (e.left.field.0 ≡ 0) × (e.left.steps.0 ≡ 0))
+
+abbrev SameAndOneBare : Equation → Type 0
+SameAndOneBare e =
+    (e.left.field.0 ≡ e.right.field.0)
+    × (((0 < e.left.steps.0) × (e.right.steps.0 ≡ 0)) ⊎ ((0 < e.right.steps.0) × (e.left.steps.0 ≡ 0)))
+
+abbrev LeftBefore : Equation → Type 0
+LeftBefore e = is_before e.left e.right ≡ true
+
+line_1_only : {g h : Guard} (c : Case g h) → line_of c ≡ 1 → IfQuestion SameAndBare g
+line_1_only (line_1 x) _ = (refl, refl, refl)
+line_1_only _ n = absurd (omega (arith, n))
+
+line_2_only : {g h : Guard} (c : Case g h) → line_of c ≡ 2 → IfQuestion BothHaveSteps g
+line_2_only (line_2 y x) _ = (omega arith, omega arith)
+line_2_only _ n = absurd (omega (arith, n))
+
+line_3_only : {g h : Guard} (c : Case g h) → line_of c ≡ 3 → IfQuestion ZeroAndSteps g
+line_3_only (line_3 x as_written) _ = inl (omega arith, refl, refl)
+line_3_only (line_3 x turned_round) _ = inr (omega arith, refl, refl)
+line_3_only _ n = absurd (omega (arith, n))
+
+line_4_only : {g h : Guard} (c : Case g h) → line_of c ≡ 4 → IfQuestion SameAndOneBare g
+line_4_only (line_4 x m as_written) _ = (refl, inl (omega arith, refl))
+line_4_only (line_4 x m turned_round) _ = (refl, inr (omega arith, refl))
+line_4_only _ n = absurd (omega (arith, n))
+
+line_5_only : {g h : Guard} (c : Case g h) → line_of c ≡ 5 → IfQuestion LeftBefore g
+line_5_only (line_5 r t b) _ = b
+line_5_only _ n = absurd (omega (arith, n))
+
+module _ (e : Equation) where
+  pub line_1_not : (SameAndBare e → ⊥) → (h : Guard) → ByLine 1 (Question e) h → ⊥
+  line_1_not n h b = n (line_1_only b.0 b.1)
+
+  pub line_2_not : (BothHaveSteps e → ⊥) → (h : Guard) → ByLine 2 (Question e) h → ⊥
+  line_2_not n h b = n (line_2_only b.0 b.1)
+
+  pub line_3_not : (ZeroAndSteps e → ⊥) → (h : Guard) → ByLine 3 (Question e) h → ⊥
+  line_3_not n h b = n (line_3_only b.0 b.1)
+
+  pub line_4_not : (SameAndOneBare e → ⊥) → (h : Guard) → ByLine 4 (Question e) h → ⊥
+  line_4_not n h b = n (line_4_only b.0 b.1)
+
+  pub line_5_not : (LeftBefore e → ⊥) → (h : Guard) → ByLine 5 (Question e) h → ⊥
+  line_5_not n h b = n (line_5_only b.0 b.1)

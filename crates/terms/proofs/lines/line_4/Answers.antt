@@ -1,0 +1,9 @@
+use native.Mathlib.Omega.{arith}
+use Rattle.terms.proofs.LineTests.{line_4_turned, line_4_not}
+use Rattle.terms.proofs.lines.line_4.Goals as goal
+
+pub returns-then-e-eq0-2 : goal.returns-then-e-eq0-2
+returns-then-e-eq0-2 c = line_4_turned c.args.e c.if-e-gt0-2.true c.if-e-2.true c.if-e-eq0-2.true
+
+pub returns : goal.returns
+returns c = line_4_not c.args.e (λ s. omega (arith, s, c.else-e-gt0.either, c.else-e-gt0-2.either))
