@@ -9,7 +9,7 @@ use Rattle.terms.specs.declared.simplification.Guard.{Guard}
 use Rattle.terms.specs.declared.simplification.Guard.TheVariants.{Never, Always, Question}
 use Rattle.terms.specs.Form.{InForm}
 use Rattle.terms.specs.Simplify.{simplify}
-use Rattle.terms.specs.Lines.{Case, Sequence, nothing, first, Normal, most_cases}
+use Rattle.terms.specs.Lines.{Sequence, nothing, first, Normal, most_cases}
 use Rattle.terms.proofs.CaseAnswer.{answer_of, case_keeps_answer, sequence_keeps_answer}
 use Rattle.terms.proofs.CaseEnds.{case_falls}
 use Rattle.terms.proofs.CaseOrForm.{LeadsOn, case_or_form, normal_exactly}

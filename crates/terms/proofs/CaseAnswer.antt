@@ -1,6 +1,6 @@
 -- Each case keeps simplify's answer: simplify compares step counts and takes the smaller off, which a step on both sides changes nothing of, and it
 -- turns an equation round itself. So a sequence of cases keeps the answer too, in whatever order they are picked.
-use Prim.Native.Nat.{ℕ, ◌+◌, ◌-◌, ◌<◌, min}
+use Prim.Native.Nat.{ℕ, ◌+◌}
 use mathlib.Core.Path.{◌≡◌, refl, sym, ap, ◌∙◌}
 use mathlib.Core.Bool.{cond}
 use native.Mathlib.Omega.{arith}

@@ -1,7 +1,7 @@
 -- Either a case leads on from a guard, or the guard is in one of Corollary 25's forms: with steps on both sides line 2 leads on; else one side is bare, and
 -- lines 5, 3, 4 and 1 leave only the larger field on the left, with no steps against zero. From these forms no line leads on: its left side is none of them.
-use Prim.Native.Nat.{◌<◌, ◌≤◌, min}
-use mathlib.Core.Path.{◌≡◌}
+use Prim.Native.Nat.{◌<◌, min}
+use mathlib.Core.Path.{◌≡◌, refl}
 use mathlib.Core.Logic.{◌⊎◌, inl, inr, ◌↔◌}
 use native.Mathlib.Omega.{arith}
 use native.Mathlib.Decide.{dec_lt}
@@ -12,20 +12,20 @@ use Rattle.terms.specs.Form.{SimplifiedForm, InForm}
 use Rattle.terms.specs.Lines.{Case, line_1, line_2, line_3, line_4, line_5, as_written, turned_round, Normal}
 use Rattle.terms.proofs.LineTests.{line_1_applies, line_2_applies, line_3_applies, line_4_applies, line_5_applies}
 use Rattle.terms.proofs.SimplifyForm.{by_numbers, smaller_right, bare_side, bare_left}
-use Rattle.terms.proofs.TermOrder.{Before, smaller_field, fewer_steps, before_exactly, no_larger_field}
+use Rattle.terms.proofs.TermOrder.{Smaller, before_says, before_exactly}
 
 -- a case leads on from a guard
 abbrev pub LeadsOn : Guard → Type 0
 LeadsOn g = (h : Guard) × Case g h
 
 module _ (e : Equation) where
-  turns : Before e.left e.right → LeadsOn (Question e)
+  turns : Smaller e.left e.right → LeadsOn (Question e)
   turns b = (_, (line_5_applies e (before_exactly e.left e.right b)).0)
 
   same_field : e.left.field.0 ≡ e.right.field.0 → min e.left.steps.0 e.right.steps.0 ≡ 0 → LeadsOn (Question e)
   same_field f m =
       elim (dec_lt e.left.steps.0 e.right.steps.0) [
-        | yes h ↦ turns (fewer_steps f h)
+        | yes h ↦ turns (inr (f, h))
         | no n ↦ elim (dec_lt 0 e.left.steps.0) [
           | yes l ↦ (Never, (line_4_applies e l f (omega arith)).0)
           | no k ↦ (Always, (line_1_applies e f (omega arith) (omega arith)).0)
@@ -45,7 +45,7 @@ module _ (e : Equation) where
   one_bare : min e.left.steps.0 e.right.steps.0 ≡ 0 → LeadsOn (Question e) ⊎ SimplifiedForm e
   one_bare m =
       elim (dec_lt e.left.field.0 e.right.field.0) [
-        | yes h ↦ inl (turns (smaller_field h))
+        | yes h ↦ inl (turns (inl h))
         | no n ↦ elim (dec_lt e.right.field.0 e.left.field.0) [
           | yes f ↦ larger_left f m
           | no k ↦ inl (same_field (omega arith) m)
@@ -55,7 +55,7 @@ module _ (e : Equation) where
   question_or_form : LeadsOn (Question e) ⊎ SimplifiedForm e
   question_or_form =
       elim (dec_lt 0 (min e.left.steps.0 e.right.steps.0)) [
-        | yes h ↦ inl (_, (line_2_applies e (omega arith) (omega arith)).0)
+        | yes h ↦ inl (_, (line_2_applies e (omega arith) (omega arith) refl refl).0)
         | no n ↦ one_bare (omega arith)
       ]
 
@@ -72,7 +72,7 @@ form_normal (line_3 x as_written) s = omega (arith, bare_left _ s (omega arith))
 form_normal (line_3 x turned_round) s = omega (arith, smaller_right _ s)
 form_normal (line_4 x m as_written) s = omega (arith, smaller_right _ s)
 form_normal (line_4 x m turned_round) s = omega (arith, smaller_right _ s)
-form_normal (line_5 r t b) s = omega (arith, smaller_right _ s, no_larger_field r t b)
+form_normal (line_5 r t b) s = omega (arith, smaller_right _ s, before_says r t b)
 
 -- The normal guards are never, always and the questions in one of Corollary 25's forms, no others.
 pub normal_exactly : (g : Guard) → Normal g ↔ InForm g

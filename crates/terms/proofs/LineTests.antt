@@ -4,13 +4,14 @@ use mathlib.Core.Path.{◌≡◌, refl, subst}
 use mathlib.Core.Logic.{◌⊎◌, inl, inr}
 use mathlib.Core.Bool.{true}
 use native.Mathlib.Omega.{arith}
+use Rattle.terms.specs.declared.term.Term.{Term}
 use Rattle.terms.specs.declared.term.Equation.{Equation}
 use Rattle.terms.specs.declared.simplification.Guard.{Guard}
 use Rattle.terms.specs.declared.simplification.Guard.TheVariants.{Never, Always, Question}
 use Rattle.terms.specs.Form.{IfQuestion}
 use Rattle.terms.specs.Words.{equation}
 use Rattle.terms.specs.Simplify.{less_steps, turned}
-use Rattle.terms.specs.Lines.{S, S_times, bare, zero_itself, is_before, as_written, turned_round, written, line_1, line_2, line_3, line_4, line_5, Case, line_of, ByLine}
+use Rattle.terms.specs.Lines.{S, S_times, bare, zero_itself, is_before, Before, as_written, turned_round, written, line_1, line_2, line_3, line_4, line_5, Case, line_of, ByLine}
 use Rattle.terms.proofs.Numbers.{equations_equal}
 
 -- line k at an equation, and at one that is it
@@ -23,13 +24,13 @@ module _ (e : Equation) where
       let p = equation (bare e.left.field) (bare e.left.field) in
       at_equal 1 p e Always (equations_equal p e refl (omega arith) f (omega arith)) (line_1 e.left.field, refl)
 
-  pub line_2_applies : 0 < e.left.steps.0 → 0 < e.right.steps.0
-      → ByLine 2 (Question e) (Question (equation (less_steps 1 e.left) (less_steps 1 e.right)))
-  line_2_applies l r =
-      let y = less_steps 1 e.left in
-      let x = less_steps 1 e.right in
-      let p = equation (S y) (S x) in
-      at_equal 2 p e (Question (equation y x)) (equations_equal p e refl (omega arith) refl (omega arith)) (line_2 y x, refl)
+  pub line_2_applies : {y x : Term} → 0 < e.left.steps.0 → 0 < e.right.steps.0 → y ≡ less_steps 1 e.left → x ≡ less_steps 1 e.right
+      → ByLine 2 (Question e) (Question (equation y x))
+  line_2_applies {y} {x} l r i j =
+      let p = equation (S (less_steps 1 e.left)) (S (less_steps 1 e.right)) in
+      rw (i, j)
+      (at_equal 2 p e (Question (equation (less_steps 1 e.left) (less_steps 1 e.right)))
+      (equations_equal p e refl (omega arith) refl (omega arith)) (line_2 (less_steps 1 e.left) (less_steps 1 e.right), refl))
 
   pub line_3_applies : 0 < e.left.steps.0 → e.right.field.0 ≡ 0 → e.right.steps.0 ≡ 0 → ByLine 3 (Question e) Never
   line_3_applies l f r =
@@ -61,58 +62,42 @@ module _ (e : Equation) where
   line_5_applies b = (line_5 e.left e.right b, refl)
 
 -- what each line says of the numbers of an equation that it applies to
-abbrev BothHaveSteps : Equation → Type 0
-BothHaveSteps e = (0 < e.left.steps.0) × (0 < e.right.steps.0)
-
-abbrev SameAndBare : Equation → Type 0
+abbrev pub SameAndBare : Equation → Type 0
 SameAndBare e = (e.left.field.0 ≡ e.right.field.0) × (e.left.steps.0 ≡ 0) × (e.right.steps.0 ≡ 0)
 
-abbrev ZeroAndSteps : Equation → Type 0
+abbrev pub BothHaveSteps : Equation → Type 0
+BothHaveSteps e = (0 < e.left.steps.0) × (0 < e.right.steps.0)
+
+abbrev pub ZeroAndSteps : Equation → Type 0
 ZeroAndSteps e =
     ((0 < e.left.steps.0) × (e.right.field.0 ≡ 0) × (e.right.steps.0 ≡ 0)) ⊎ ((0 < e.right.steps.0) × (e.left.field.0 ≡ 0) × (e.left.steps.0 ≡ 0))
 
-abbrev SameAndOneBare : Equation → Type 0
+abbrev pub SameAndOneBare : Equation → Type 0
 SameAndOneBare e =
     (e.left.field.0 ≡ e.right.field.0)
     × (((0 < e.left.steps.0) × (e.right.steps.0 ≡ 0)) ⊎ ((0 < e.right.steps.0) × (e.left.steps.0 ≡ 0)))
 
-abbrev LeftBefore : Equation → Type 0
-LeftBefore e = is_before e.left e.right ≡ true
+abbrev pub LeftBefore : Equation → Type 0
+LeftBefore e = Before e.left e.right
 
-line_1_only : {g h : Guard} (c : Case g h) → line_of c ≡ 1 → IfQuestion SameAndBare g
+pub line_1_only : {g h : Guard} (c : Case g h) → line_of c ≡ 1 → IfQuestion SameAndBare g
 line_1_only (line_1 x) _ = (refl, refl, refl)
 line_1_only _ n = absurd (omega (arith, n))
 
-line_2_only : {g h : Guard} (c : Case g h) → line_of c ≡ 2 → IfQuestion BothHaveSteps g
+pub line_2_only : {g h : Guard} (c : Case g h) → line_of c ≡ 2 → IfQuestion BothHaveSteps g
 line_2_only (line_2 y x) _ = (omega arith, omega arith)
 line_2_only _ n = absurd (omega (arith, n))
 
-line_3_only : {g h : Guard} (c : Case g h) → line_of c ≡ 3 → IfQuestion ZeroAndSteps g
+pub line_3_only : {g h : Guard} (c : Case g h) → line_of c ≡ 3 → IfQuestion ZeroAndSteps g
 line_3_only (line_3 x as_written) _ = inl (omega arith, refl, refl)
 line_3_only (line_3 x turned_round) _ = inr (omega arith, refl, refl)
 line_3_only _ n = absurd (omega (arith, n))
 
-line_4_only : {g h : Guard} (c : Case g h) → line_of c ≡ 4 → IfQuestion SameAndOneBare g
+pub line_4_only : {g h : Guard} (c : Case g h) → line_of c ≡ 4 → IfQuestion SameAndOneBare g
 line_4_only (line_4 x m as_written) _ = (refl, inl (omega arith, refl))
 line_4_only (line_4 x m turned_round) _ = (refl, inr (omega arith, refl))
 line_4_only _ n = absurd (omega (arith, n))
 
-line_5_only : {g h : Guard} (c : Case g h) → line_of c ≡ 5 → IfQuestion LeftBefore g
+pub line_5_only : {g h : Guard} (c : Case g h) → line_of c ≡ 5 → IfQuestion LeftBefore g
 line_5_only (line_5 r t b) _ = b
 line_5_only _ n = absurd (omega (arith, n))
-
-module _ (e : Equation) where
-  pub line_1_not : (SameAndBare e → ⊥) → (h : Guard) → ByLine 1 (Question e) h → ⊥
-  line_1_not n h b = n (line_1_only b.0 b.1)
-
-  pub line_2_not : (BothHaveSteps e → ⊥) → (h : Guard) → ByLine 2 (Question e) h → ⊥
-  line_2_not n h b = n (line_2_only b.0 b.1)
-
-  pub line_3_not : (ZeroAndSteps e → ⊥) → (h : Guard) → ByLine 3 (Question e) h → ⊥
-  line_3_not n h b = n (line_3_only b.0 b.1)
-
-  pub line_4_not : (SameAndOneBare e → ⊥) → (h : Guard) → ByLine 4 (Question e) h → ⊥
-  line_4_not n h b = n (line_4_only b.0 b.1)
-
-  pub line_5_not : (LeftBefore e → ⊥) → (h : Guard) → ByLine 5 (Question e) h → ⊥
-  line_5_not n h b = n (line_5_only b.0 b.1)

@@ -3,7 +3,7 @@ use mathlib.Core.Path.{refl}
 use Rattle.std.proofs.Common.{Option, Some, None}
 use Rattle.std.specs.Option.{option_or}
 use Rattle.terms.specs.declared.simplification.Guard.{Guard}
-use Rattle.terms.specs.Lines.{Case, line_1, line_2, line_3, line_4, line_5, Normal, Tried, Stepped}
+use Rattle.terms.specs.Lines.{line_1, line_2, line_3, line_4, line_5, Normal, Tried, Stepped}
 
 no_line : {g : Guard} → Tried 1 g None → Tried 2 g None → Tried 3 g None → Tried 4 g None → Tried 5 g None → Normal g
 no_line a b c d e h (line_1 x) = a h (line_1 x, refl)
@@ -20,4 +20,3 @@ first_line g None None (Some h) s t a b c d e = c.0
 first_line g None None None (Some h) t a b c d e = d.0
 first_line g None None None None (Some h) a b c d e = e.0
 first_line g None None None None None a b c d e = no_line a b c d e
-

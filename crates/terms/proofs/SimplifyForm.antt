@@ -36,7 +36,7 @@ by_numbers q h m z =
 
 settled_form : (d : Equation) → d.right.field.0 < d.left.field.0 → InForm (never_or_question (lowered d))
 unfolding lowered
-settled_form d h = never_or_question_cases (InForm) (lowered d) (λ _ _. tt) (λ z. by_numbers (lowered d) h (omega arith) z)
+settled_form d h = never_or_question_cases InForm (lowered d) (λ _ _. tt) (λ z. by_numbers (lowered d) h (omega arith) z)
 
 pub simplify_form : (e : Equation) → InForm (simplify e)
 simplify_form e = simplify_cases InForm e (λ _ _. tt) (λ _ _. tt) go

@@ -28,6 +28,9 @@ S t = S_times (t.steps.0 + 1) t.field
 unfoldable pub is_before : Term → Term → Bool
 is_before r t = ltb r.field.0 t.field.0 || (eqb r.field.0 t.field.0 && ltb r.steps.0 t.steps.0)
 
+abbrev pub Before : Term → Term → Type 0
+Before r t = is_before r t ≡ true
+
 -- "either way round"
 pub data Way : Type 0 where
   as_written : Way
@@ -49,7 +52,7 @@ pub data Case : Guard → Guard → Type 0 where
   -- S^(m+1)(x) = x → ⊥ for all m ∈ ℕ, "either way round"
   line_4 : (x : Field) (m : ℕ) (w : Way) → Case (Question (written w (S_times (m + 1) x) (bare x))) Never
   -- r = t → t = r for all r, t ∈ W such that r < t
-  line_5 : (r t : Term) → is_before r t ≡ true → Case (Question (equation r t)) (Question (equation t r))
+  line_5 : (r t : Term) → Before r t → Case (Question (equation r t)) (Question (equation t r))
 
 -- the number of a case's line
 abbrev pub line_of : {g h : Guard} → Case g h → ℕ

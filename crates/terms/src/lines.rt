@@ -1,4 +1,10 @@
-// The five lines of simplifying, each by itself, and what one of them makes of a guard.
+// The five lines of document 000's Definition 24, each by itself, and what one of them makes of a guard.
+//
+// Repeated until none applies they simplify an equation, in whatever order they are picked (proofs/AnyOrder.antt). By hand, S being a step:
+// - S3(1) = S(2): line 2 leads to S2(1) = 2, and line 5 turns that round, to 2 = S2(1), where no line applies;
+// - S(1) = S2(1): line 2 leads to 1 = S(1), which line 4 takes the other way round: never;
+// - S(0) = S2(3): line 2 leads to 0 = S(3), which line 3 takes the other way round: never.
+// More stand in proofs/WorkedCases.antt.
 ghost use Rattle.std.specs.Prelude.{◌≡◌, ◌<◌};
 ghost use Rattle.terms.specs.Lines as spec;
 ghost use Rattle.terms.specs.Simplify.{less_steps};
@@ -6,7 +12,6 @@ ghost use Rattle.terms.specs.declared.simplification.Guard.TheVariants as guard;
 
 use crate::simplification::Guard;
 use crate::term::{Equation, Steps, Term};
-
 
 // Whether a term is before another: by its field, zero first, then by its steps.
 #[tactic(auto, unfolding(crate::specs::Lines::is_before))]
@@ -16,7 +21,7 @@ fn is_before(r: Term, t: Term) -> bool
     r.field.0 < t.field.0 || (r.field.0 == t.field.0 && r.steps.0 < t.steps.0)
 }
 
-// A term with one step taken off: x of S(x).
+// The term x of a term S(x).
 fn step_off(t: Term) -> Term
     requires { 0 < t.steps.0 }
     ensures { result ≡ less_steps 1 t }
@@ -43,13 +48,13 @@ fn line_1(e: Equation) -> Option<Guard>
 fn line_2(e: Equation) -> Option<Guard>
     ensures { spec.Tried 2 (guard.Question e) result }
 {
-    if e.left.steps.0 == 0 || e.right.steps.0 == 0 {
-        return None;
+    if e.left.steps.0 > 0 && e.right.steps.0 > 0 {
+        return Some(Guard::Question(Equation {
+            left: step_off(e.left),
+            right: step_off(e.right),
+        }));
     }
-    Some(Guard::Question(Equation {
-        left: step_off(e.left),
-        right: step_off(e.right),
-    }))
+    None
 }
 
 // Line 3: S(x) = 0 → never, either way round.
@@ -94,12 +99,16 @@ fn line_5(e: Equation) -> Option<Guard>
     None
 }
 
-// What one case makes of a guard, or nothing if none applies.
+// What the first line that applies makes of a guard, or nothing if none applies.
 pub fn one_case(guard: Guard) -> Option<Guard>
     ensures { spec.Stepped guard result }
 {
     match guard {
         Guard::Never | Guard::Always => None,
-        Guard::Question(e) => line_1(e).or(line_2(e)).or(line_3(e)).or(line_4(e)).or(line_5(e)),
+        Guard::Question(e) => line_1(e)
+            .or(line_2(e))
+            .or(line_3(e))
+            .or(line_4(e))
+            .or(line_5(e)),
     }
 }

@@ -1,6 +1,7 @@
+-- `line_1` meets its contract: where its three tests fail, so does what line 1 says of an equation.
 use native.Mathlib.Omega.{arith}
-use Rattle.terms.proofs.LineTests.{line_1_not}
+use Rattle.terms.proofs.LineTests.{line_1_only}
 use Rattle.terms.proofs.lines.line_1.Goals as goal
 
 pub returns : goal.returns
-returns c = line_1_not c.args.e (λ s. omega (arith, s, c.else-e.either))
+returns c = λ h b. omega (arith, line_1_only b.0 b.1, c.else-e.either)

@@ -1,3 +1,4 @@
+-- `one_case` meets its contract: it takes the first of the five answers that gives something.
 use Rattle.terms.proofs.OneCase.{first_line}
 use Rattle.terms.proofs.lines.one_case.Goals as goal
 

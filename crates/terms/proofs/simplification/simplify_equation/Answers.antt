@@ -1,4 +1,4 @@
-use mathlib.Core.Path.{◌≡◌, sym, ◌∙◌}
+use mathlib.Core.Path.{sym, ◌∙◌}
 use Rattle.terms.proofs.AnyOrder.{normal_stays}
 use Rattle.terms.proofs.CaseAnswer.{case_keeps_answer}
 use Rattle.terms.proofs.CaseEnds.{case_falls}
