@@ -21,7 +21,7 @@ form_stays Never _ = refl
 form_stays Always _ = refl
 form_stays (Question q) s = simplified_stays q s
 
-pub normal_stays : (g : Guard) → Normal g → answer_of g ≡ g
+normal_stays : (g : Guard) → Normal g → answer_of g ≡ g
 normal_stays g n = form_stays g ((normal_exactly g).0 n)
 
 reached_within : (n : ℕ) (g : Guard) → most_cases g ≤ n → LeadsOn g ⊎ InForm g → Sequence g (answer_of g)

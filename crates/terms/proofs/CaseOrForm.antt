@@ -9,8 +9,8 @@ use Rattle.terms.specs.declared.term.Equation.{Equation}
 use Rattle.terms.specs.declared.simplification.Guard.{Guard}
 use Rattle.terms.specs.declared.simplification.Guard.TheVariants.{Never, Always, Question}
 use Rattle.terms.specs.Form.{SimplifiedForm, InForm}
-use Rattle.terms.specs.Lines.{Case, line_1, line_2, line_3, line_4, line_5, as_written, turned_round, Normal}
-use Rattle.terms.proofs.LineTests.{line_1_applies, line_2_applies, line_3_applies, line_4_applies, line_5_applies}
+use Rattle.terms.specs.Lines.{Case, line_1, line_2, line_3, line_4, line_5, Normal}
+use Rattle.terms.proofs.LineTests.{ZeroAndSteps, line_3_only, line_4_only, line_1_applies, line_2_applies, line_3_applies, line_4_applies, line_5_applies}
 use Rattle.terms.proofs.SimplifyForm.{by_numbers, smaller_right, bare_side, bare_left}
 use Rattle.terms.proofs.TermOrder.{Smaller, before_says, before_exactly}
 
@@ -32,8 +32,8 @@ module _ (e : Equation) where
         ]
       ]
 
-  larger_left : e.right.field.0 < e.left.field.0 → min e.left.steps.0 e.right.steps.0 ≡ 0 → LeadsOn (Question e) ⊎ SimplifiedForm e
-  larger_left f m =
+  larger_on_left : e.right.field.0 < e.left.field.0 → min e.left.steps.0 e.right.steps.0 ≡ 0 → LeadsOn (Question e) ⊎ SimplifiedForm e
+  larger_on_left f m =
       elim (dec_lt 0 e.left.steps.0) [
         | yes l ↦ elim (dec_lt 0 e.right.field.0) [
           | yes x ↦ inr (by_numbers e f m (λ z. absurd (omega (arith, z))))
@@ -47,7 +47,7 @@ module _ (e : Equation) where
       elim (dec_lt e.left.field.0 e.right.field.0) [
         | yes h ↦ inl (turns (inl h))
         | no n ↦ elim (dec_lt e.right.field.0 e.left.field.0) [
-          | yes f ↦ larger_left f m
+          | yes f ↦ larger_on_left f m
           | no k ↦ inl (same_field (omega arith) m)
         ]
       ]
@@ -64,14 +64,16 @@ case_or_form Never = inr tt
 case_or_form Always = inr tt
 case_or_form (Question e) = question_or_form e
 
+no_zero_and_steps : (q : Equation) → SimplifiedForm q → ZeroAndSteps q → ⊥
+no_zero_and_steps q s (inl (l, f, r)) = omega (arith, bare_left q s f)
+no_zero_and_steps q s (inr (r, f, l)) = omega (arith, smaller_right q s)
+
 -- no case leads on from a guard in one of the forms
 form_normal : {g h : Guard} → Case g h → InForm g → ⊥
 form_normal (line_1 x) s = omega (arith, smaller_right _ s)
 form_normal (line_2 y x) s = omega (arith, bare_side _ s)
-form_normal (line_3 x as_written) s = omega (arith, bare_left _ s (omega arith))
-form_normal (line_3 x turned_round) s = omega (arith, smaller_right _ s)
-form_normal (line_4 x m as_written) s = omega (arith, smaller_right _ s)
-form_normal (line_4 x m turned_round) s = omega (arith, smaller_right _ s)
+form_normal (line_3 x w) s = no_zero_and_steps _ s (line_3_only (line_3 x w) refl)
+form_normal (line_4 x m w) s = omega (arith, smaller_right _ s, line_4_only (line_4 x m w) refl)
 form_normal (line_5 r t b) s = omega (arith, smaller_right _ s, before_says r t b)
 
 -- The normal guards are never, always and the questions in one of Corollary 25's forms, no others.

@@ -9,6 +9,7 @@ pub mod CaseTruth
 pub mod TermOrder
 pub mod CaseEnds
 pub mod CaseAnswer
+pub mod Sequences
 pub mod LineTests
 pub mod OneCase
 pub mod CaseOrForm

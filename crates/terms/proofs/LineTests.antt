@@ -1,7 +1,7 @@
 -- A line applies to an equation exactly if its four numbers are as the line's left side has them: a line can be written at them, and says no less of them.
 use Prim.Native.Nat.{ℕ, ◌+◌, ◌-◌, ◌<◌}
 use mathlib.Core.Path.{◌≡◌, refl, subst}
-use mathlib.Core.Logic.{◌⊎◌, inl, inr}
+use mathlib.Core.Logic.{◌⊎◌}
 use mathlib.Core.Bool.{true}
 use native.Mathlib.Omega.{arith}
 use Rattle.terms.specs.declared.term.Term.{Term}
@@ -89,13 +89,13 @@ line_2_only (line_2 y x) _ = (omega arith, omega arith)
 line_2_only _ n = absurd (omega (arith, n))
 
 pub line_3_only : {g h : Guard} (c : Case g h) → line_of c ≡ 3 → IfQuestion ZeroAndSteps g
-line_3_only (line_3 x as_written) _ = inl (omega arith, refl, refl)
-line_3_only (line_3 x turned_round) _ = inr (omega arith, refl, refl)
+line_3_only (line_3 x as_written) _ = grind arith
+line_3_only (line_3 x turned_round) _ = grind arith
 line_3_only _ n = absurd (omega (arith, n))
 
 pub line_4_only : {g h : Guard} (c : Case g h) → line_of c ≡ 4 → IfQuestion SameAndOneBare g
-line_4_only (line_4 x m as_written) _ = (refl, inl (omega arith, refl))
-line_4_only (line_4 x m turned_round) _ = (refl, inr (omega arith, refl))
+line_4_only (line_4 x m as_written) _ = grind arith
+line_4_only (line_4 x m turned_round) _ = grind arith
 line_4_only _ n = absurd (omega (arith, n))
 
 pub line_5_only : {g h : Guard} (c : Case g h) → line_of c ≡ 5 → IfQuestion LeftBefore g

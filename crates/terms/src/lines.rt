@@ -45,7 +45,7 @@ fn line_1(e: Equation) -> Option<Guard>
 
 // Line 2: S(y) = S(x) → y = x.
 #[tactic(auto, using(crate::proofs::LineTests::line_2_applies))]
-fn line_2(e: Equation) -> Option<Guard>
+pub fn line_2(e: Equation) -> Option<Guard>
     ensures { spec.Tried 2 (guard.Question e) result }
 {
     if e.left.steps.0 > 0 && e.right.steps.0 > 0 {

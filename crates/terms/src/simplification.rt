@@ -1,11 +1,13 @@
 // Simplifying an equation of two terms.
 ghost use Rattle.std.specs.Prelude.{◌≡◌, ◌<◌, ◌^◌};
+ghost use Rattle.terms.specs.Lines.{Sequence};
 ghost use Rattle.terms.specs.Needs.{HasWords};
 ghost use Rattle.terms.specs.Simplify as spec;
 ghost use Rattle.terms.specs.Limits as limit;
+ghost use Rattle.terms.specs.declared.simplification.Guard.TheVariants as guard;
 
 use crate::limits::{TermLimits, term_limits};
-use crate::lines::one_case;
+use crate::lines::{line_2, one_case};
 use crate::refusal::Refusal;
 use crate::term::{Equation, allows, word_of};
 
@@ -49,11 +51,22 @@ pub struct SimplifyAnswer {
     pub gap: i32,
 }
 
+// Line 2, as long as it applies. By itself this loop is compiled to a subtraction, so that steps which both sides have cost no time.
+fn steps_off(e: Equation) -> Equation
+    ensures { Sequence (guard.Question e) (guard.Question result) }
+{
+    let mut less = e;
+    while let Some(Guard::Question(next)) = line_2(less) {
+        less = next;
+    }
+    less
+}
+
 // What an equation simplifies to, whatever its step counts: one case after another, until none applies.
 pub fn simplify_equation(e: Equation) -> Guard
     ensures { result ≡ spec.simplify e }
 {
-    let mut guard = Guard::Question(e);
+    let mut guard = Guard::Question(steps_off(e));
     while let Some(next) = one_case(guard) {
         guard = next;
     }

@@ -73,9 +73,25 @@ pub mod occasion {
         "blanks beside 65,533 or 65,534 read as 2",
     ];
     pub const COUNTS_DECIDE: &str = "blanks and counts read as 0 or 1, of a rule that is sometimes true";
+    pub const LINES: [&str; 5] = [
+        "line 1 of simplification picked",
+        "line 2 of simplification picked",
+        "line 3 of simplification picked",
+        "line 4 of simplification picked",
+        "line 5 of simplification picked",
+    ];
+    /// Several lines of simplification that apply at once, and the occasion.
+    pub const LINES_AT_ONCE: [(&[usize], &str); 5] = [
+        (&[2, 5], "lines 2 and 5 of simplification at once"),
+        (&[3, 4], "lines 3 and 4 of simplification at once"),
+        (&[3, 5], "lines 3 and 5 of simplification at once"),
+        (&[4, 5], "lines 4 and 5 of simplification at once"),
+        (&[3, 4, 5], "lines 3, 4 and 5 of simplification at once"),
+    ];
+    pub const LONGEST_SEQUENCE: &str = "1,024 cases of simplification for one equation";
 
     /// Every occasion.
-    pub const ALL: [&str; 47] = [
+    pub const ALL: [&str; 58] = [
         LIST_IN_ONE_ORDER,
         LIST_IN_BOTH_ORDERS,
         FIELDS_BEFORE_ORDER,
@@ -123,6 +139,17 @@ pub mod occasion {
         BLANKS_AT_THE_EDGE[1],
         BLANKS_AT_THE_EDGE[2],
         COUNTS_DECIDE,
+        LINES[0],
+        LINES[1],
+        LINES[2],
+        LINES[3],
+        LINES[4],
+        LINES_AT_ONCE[0].1,
+        LINES_AT_ONCE[1].1,
+        LINES_AT_ONCE[2].1,
+        LINES_AT_ONCE[3].1,
+        LINES_AT_ONCE[4].1,
+        LONGEST_SEQUENCE,
     ];
 }
 

@@ -14,16 +14,20 @@
 //! each possible combination of answers whether the counts on the sheet go together with it by their bounds; [`Fast`] searches the diagram from
 //! the bounds that the counts give.
 //!
+//! [`Plain`] and [`Fast`] simplify in one go. [`Guard::cases`] are the lines by which simplification is defined, for any order of them.
+//!
 //! Tables of diagrams are checked by [`Plain`] as trees, with [`Paths`] to look for a sheet on every path, and by [`Fast`] with the set of
 //! entries below each handle.
 //!
 //! The two share the limits, the numbers of orders, refusals and blanks and the term words below, and nothing else.
 
+mod case_by_case;
 mod fast;
 mod normal_form;
 mod plain;
 mod trees;
 
+pub use case_by_case::Guard;
 pub use fast::Fast;
 pub use normal_form::{rules_that_apply, NormalFormRule, NORMAL_FORM_RULES};
 pub use plain::{fillings, largest_count, Plain, Question, Truths};
@@ -187,7 +191,7 @@ pub trait Operations {
 }
 
 /// A term: a field's count plus steps. Field 0 is zero.
-#[derive(Clone, Copy, Debug, PartialEq, Eq, Hash)]
+#[derive(Clone, Copy, Debug, PartialEq, Eq, PartialOrd, Ord, Hash)]
 pub struct Term {
     pub field: u32,
     pub steps: u32,

@@ -3,6 +3,7 @@
 //! SHEET_CASES says how many lists of calls are tried (other counts follow it), SHEET_SEED which ones.
 
 mod blanks;
+mod case_by_case;
 mod cases;
 mod hostile;
 mod limits;
@@ -21,7 +22,7 @@ use compare::random::Random;
 type Suite = fn(&mut Comparison, &mut Random, u64);
 
 /// Every suite and what it is about. Which inputs a suite tries depends on its place.
-const SUITES: [(&str, Suite); 25] = [
+const SUITES: [(&str, Suite); 27] = [
     ("the documents' cases", cases::document_cases),
     ("simplify", hostile::simplify),
     ("the two ways to find possible answers", lists::possible_answers),
@@ -47,6 +48,8 @@ const SUITES: [(&str, Suite); 25] = [
     ("raw lists spelt otherwise", raw_lists::other_spellings),
     ("sheets with blanks, stores that operations have made", blanks::made_stores),
     ("sheets with blanks, stores written by hand", blanks::stores_by_hand),
+    ("simplification case by case, in every order", case_by_case::every_order),
+    ("simplification case by case, picked at random", case_by_case::picked_at_random),
 ];
 
 fn number_from_environment(name: &str, otherwise: u64) -> u64 {
