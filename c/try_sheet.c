@@ -254,6 +254,16 @@ static void steps_simplified(void)
     simplify("viii simplify S1023(16) = 15", 32752, 15, (sheet_simplified){0, 2, 32752, 15, -1023});
 }
 
+/* Document 02 (iv), line by line: several lines apply to each, and in the last two line 2 does, 1,022 and 1,023 times. */
+static void simplified_case_by_case(void)
+{
+    simplify("iv simplify 0 = S(0)", 0, 32, (sheet_simplified){0, 0, 0, 0, 0});
+    simplify("iv simplify S(0) = S2(3)", 32, 67, (sheet_simplified){0, 0, 0, 0, 0});
+    simplify("iv simplify 1 = S2(2)", 1, 66, (sheet_simplified){0, 2, 66, 1, -2});
+    simplify("iv simplify S1022(0) = S1023(0)", 32704, 32736, (sheet_simplified){0, 0, 0, 0, 0});
+    simplify("iv simplify S1023(0) = S1023(0)", 32736, 32736, (sheet_simplified){0, 1, 0, 0, 0});
+}
+
 /* S1023(2) = 1, built turned round, and its negation. */
 static void steps_built(void)
 {
@@ -741,6 +751,7 @@ int main(void)
     case_12();
     blanks();
     steps_simplified();
+    simplified_case_by_case();
     steps_built();
     steps_added_up();
     steps_in_a_store();

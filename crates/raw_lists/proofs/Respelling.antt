@@ -1,42 +1,24 @@
 -- A raw list says the same in another spelling: an equation turned round, or with the same steps added on both sides, simplifies to the same, and it does not matter how often
 -- and where it stands.
-use Prim.Native.Nat.{ℕ, ◌+◌}
+use Prim.Native.Nat.{ℕ}
 use mathlib.Core.Path.{◌≡◌, refl, sym, subst, ◌∙◌}
 use mathlib.Core.Logic.{◌↔◌, inl, inr}
-use mathlib.Core.Bool.{cond}
 use mathlib.Core.List.Memᴰ
 use mathlib.Core.List.{List, [], ◌∷◌}
 use native.Mathlib.Omega.{arith}
 use Rattle.terms.specs.declared.term.Equation.{Equation}
-use Rattle.terms.specs.Simplify.{turned, larger_left, lowered, simplify}
-use Rattle.terms.proofs.Cases.{by_lt}
-use Rattle.terms.proofs.Numbers.{equations_equal}
+use Rattle.terms.specs.Simplify.{turned, simplify}
 use Rattle.terms.proofs.SimplifyForm.{simplify_turned}
-use Rattle.terms.proofs.SimplifyTruth.{same_test}
+use Rattle.terms.proofs.StepsAdded as law
 use Rattle.raw_lists.specs.IsResulting.{In, WrittenIn}
 use Rattle.raw_lists.specs.OnPaper.{raised, Spells, as_it_is, turned_round, steps_added, Respelled}
 
 -- ---- one equation
-module _ (k : ℕ) where
-  lowered_raised : (e : Equation) → lowered (raised k e) ≡ lowered e
-  unfolding lowered
-  lowered_raised e = equations_equal (lowered (raised k e)) (lowered e) refl (omega arith) refl (omega arith)
-
-  sorted_raised : (e : Equation) → larger_left (raised k e) ≡ raised k (larger_left e)
-  unfolding larger_left
-  sorted_raised e =
-      by_lt (λ t. cond t (turned (raised k e)) (raised k e) ≡ raised k (cond t (turned e) e)) e.left.field.0 e.right.field.0 (λ _. refl) (λ _. refl)
-
-  simplify_raised : (e : Equation) → simplify (raised k e) ≡ simplify e
-  unfolding simplify
-  simplify_raised e =
-      rw (same_test (e.left.steps.0 + k) (e.right.steps.0 + k) e.left.steps.0 e.right.steps.0 (λ h. omega arith) (λ h. omega arith), sorted_raised e, lowered_raised (larger_left e))
-
 -- An equation in another spelling simplifies to the same.
 pub spells_same : {e d : Equation} → Spells e d → simplify d ≡ simplify e
 spells_same as_it_is = refl
 spells_same (turned_round {d = d} s) = simplify_turned d ∙ spells_same s
-spells_same (steps_added {d = d} k s) = simplify_raised k d ∙ spells_same s
+spells_same (steps_added {d = d} k s) = law.steps_added k d (raised k d) refl (omega arith) refl (omega arith) ∙ spells_same s
 
 -- Turning equations round, adding steps on both sides, doubling and reordering leave the questions that are written.
 pub respelled_written : {es ds : List Equation} → Respelled es ds → (q : Equation) → WrittenIn es q ↔ WrittenIn ds q

@@ -6,7 +6,7 @@ use mathlib.Core.Bool.{Bool, true, false, cond}
 use native.Mathlib.Omega.{arith}
 use Rattle.terms.specs.declared.term.Term.{Term}
 use Rattle.terms.specs.declared.simplification.Guard.{Guard}
-use Rattle.terms.specs.Lines.{is_before, as_written, turned_round, Case, line_1, line_2, line_3, line_4, line_5, Sequence, nothing, first, lines, most_cases}
+use Rattle.terms.specs.Lines.{is_before, as_written, turned_round, Case, line_1, line_2, line_3, line_4, line_5, Sequence, nothing, first, line_numbers, most_cases}
 use Rattle.terms.proofs.TermOrder.{not_after}
 
 at_most_one : (b : Bool) → cond b 1 0 ≤ 1
@@ -28,7 +28,7 @@ case_falls (line_4 x m turned_round) = omega arith
 case_falls (line_5 r t b) = omega (arith, turning_falls r t b)
 
 -- so no sequence of cases is longer than the number of the guard that it begins with.
-pub sequence_ends : {g h : Guard} (s : Sequence g h) → length (lines s) ≤ most_cases g
-unfolding lines
+pub sequence_ends : {g h : Guard} (s : Sequence g h) → length (line_numbers s) ≤ most_cases g
+unfolding line_numbers
 sequence_ends (nothing g) = omega arith
 sequence_ends (first h c s) = omega (arith, case_falls c, sequence_ends s)

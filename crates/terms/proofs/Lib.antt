@@ -5,6 +5,7 @@ pub mod Gap
 pub mod SimplifyCases
 pub mod SimplifyTruth
 pub mod SimplifyForm
+pub mod StepsAdded
 pub mod CaseTruth
 pub mod TermOrder
 pub mod CaseEnds
@@ -14,7 +15,7 @@ pub mod LineTests
 pub mod OneCase
 pub mod CaseOrForm
 pub mod AnyOrder
-pub mod WorkedCases
+pub mod WorkedSequences
 pub mod TermKept
 pub mod GapRange
 pub mod Numbers

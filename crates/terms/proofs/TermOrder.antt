@@ -1,4 +1,4 @@
--- A term is before another exactly if it has the smaller field or, of one field, fewer steps; so of two terms never both are before one another.
+-- A term is before another exactly if it has the smaller field or, of one field, fewer steps; so two terms are never each before the other.
 use Prim.Native.Nat.{◌<◌}
 use mathlib.Core.Path.{◌≡◌, refl}
 use mathlib.Core.Logic.{◌⊎◌, inl, inr}

@@ -67,21 +67,29 @@ pub data Sequence : Guard → Guard → Type 0 where
   nothing : (g : Guard) → Sequence g g
   first : {g : Guard} (h : Guard) {k : Guard} → Case g h → Sequence h k → Sequence g k
 
--- the lines of a sequence, in turn
-unfoldable pub lines : {g h : Guard} → Sequence g h → List ℕ
-lines (nothing g) = []
-lines (first h c s) = line_of c ∷ lines s
+-- the numbers of a sequence's lines, in turn
+unfoldable pub line_numbers : {g h : Guard} → Sequence g h → List ℕ
+line_numbers (nothing g) = []
+line_numbers (first h c s) = line_of c ∷ line_numbers s
 
 -- a sequence of these lines leads from g to h
 abbrev pub ByLines : List ℕ → Guard → Guard → Type 0
-ByLines ks g h = (s : Sequence g h) × (lines s ≡ ks)
+ByLines ks g h = (s : Sequence g h) × (line_numbers s ≡ ks)
+
+-- a sequence of line k and no other leads from g to h
+abbrev pub Only : ℕ → {g h : Guard} → Sequence g h → Type 0
+Only k (nothing g) = Unit {0}
+Only k (first h c s) = (line_of c ≡ k) × Only k s
+
+abbrev pub Repeated : ℕ → Guard → Guard → Type 0
+Repeated k g h = (s : Sequence g h) × Only k s
 
 -- "until none applies"; "A normal form is a term to which no rule applies."
 abbrev pub Normal : Guard → Type 0
 Normal g = (h : Guard) → Case g h → ⊥
 
--- ---- how many cases there can be
--- A number that falls with each case: line 2 takes four off, and line 5 one.
+-- ---- no sequence is longer
+-- A number that falls with each case, line 2 taking four off it and line 5 one.
 unfoldable pub most_cases : Guard → ℕ
 most_cases Never = 0
 most_cases Always = 0
@@ -96,6 +104,10 @@ ByLine k g h = (c : Case g h) × (line_of c ≡ k)
 abbrev pub Tried : ℕ → Guard → Option Guard → Type 0
 Tried k g None = (h : Guard) → ByLine k g h → ⊥
 Tried k g (Some h) = ByLine k g h
+
+-- line k, followed until it applies no more
+abbrev pub Exhausted : ℕ → Guard → Guard → Type 0
+Exhausted k g h = Repeated k g h × Tried k h None
 
 -- whether any line applies to a guard, and what one of them gives
 abbrev pub Stepped : Guard → Option Guard → Type 0

@@ -1,13 +1,13 @@
 // The five lines of document 000's Definition 24, each by itself, and what one of them makes of a guard.
 //
-// Repeated until none applies they simplify an equation, in whatever order they are picked (proofs/AnyOrder.antt). By hand, S being a step:
+// Repeated until none applies they simplify an equation, in whatever order they are picked (proofs/AnyOrder.antt). By hand, where 1, 2 and 3 are fields,
+// S is a step and S3 three of them:
 // - S3(1) = S(2): line 2 leads to S2(1) = 2, and line 5 turns that round, to 2 = S2(1), where no line applies;
 // - S(1) = S2(1): line 2 leads to 1 = S(1), which line 4 takes the other way round: never;
 // - S(0) = S2(3): line 2 leads to 0 = S(3), which line 3 takes the other way round: never.
-// More stand in proofs/WorkedCases.antt.
+// More stand in proofs/WorkedSequences.antt.
 ghost use Rattle.std.specs.Prelude.{◌≡◌, ◌<◌};
 ghost use Rattle.terms.specs.Lines as spec;
-ghost use Rattle.terms.specs.Simplify.{less_steps};
 ghost use Rattle.terms.specs.declared.simplification.Guard.TheVariants as guard;
 
 use crate::simplification::Guard;
@@ -22,9 +22,10 @@ fn is_before(r: Term, t: Term) -> bool
 }
 
 // The term x of a term S(x).
+#[tactic(auto, using(crate::proofs::LineTests::one_less))]
 fn step_off(t: Term) -> Term
     requires { 0 < t.steps.0 }
-    ensures { result ≡ less_steps 1 t }
+    ensures { spec.S result ≡ t }
 {
     Term {
         field: t.field,
@@ -99,7 +100,7 @@ fn line_5(e: Equation) -> Option<Guard>
     None
 }
 
-// What the first line that applies makes of a guard, or nothing if none applies.
+// What a line that applies makes of a guard, the first of them, or nothing if none applies.
 pub fn one_case(guard: Guard) -> Option<Guard>
     ensures { spec.Stepped guard result }
 {

@@ -1,6 +1,6 @@
 // Simplifying an equation of two terms.
 ghost use Rattle.std.specs.Prelude.{◌≡◌, ◌<◌, ◌^◌};
-ghost use Rattle.terms.specs.Lines.{Sequence};
+ghost use Rattle.terms.specs.Lines as lines;
 ghost use Rattle.terms.specs.Needs.{HasWords};
 ghost use Rattle.terms.specs.Simplify as spec;
 ghost use Rattle.terms.specs.Limits as limit;
@@ -51,22 +51,25 @@ pub struct SimplifyAnswer {
     pub gap: i32,
 }
 
-// Line 2, as long as it applies. By itself this loop is compiled to a subtraction, so that steps which both sides have cost no time.
-fn steps_off(e: Equation) -> Equation
-    ensures { Sequence (guard.Question e) (guard.Question result) }
+// Line 2, as long as it applies. The compiler makes a subtraction of a loop of its own, so the time does not grow with the steps.
+fn steps_off(e: Equation) -> Guard
+    ensures { lines.Exhausted 2 (guard.Question e) result }
 {
-    let mut less = e;
-    while let Some(Guard::Question(next)) = line_2(less) {
-        less = next;
+    let mut guard = Guard::Question(e);
+    while let Guard::Question(less) = guard {
+        match line_2(less) {
+            Some(next) => guard = next,
+            None => return guard,
+        }
     }
-    less
+    guard
 }
 
 // What an equation simplifies to, whatever its step counts: one case after another, until none applies.
 pub fn simplify_equation(e: Equation) -> Guard
     ensures { result ≡ spec.simplify e }
 {
-    let mut guard = Guard::Question(steps_off(e));
+    let mut guard = steps_off(e);
     while let Some(next) = one_case(guard) {
         guard = next;
     }

@@ -13,7 +13,7 @@ use compare::library::Library;
 use compare::normal_forms::{self, last, Entry};
 use compare::random::Random;
 use independent::{
-    Answer, Fast, Operations, Term, BLANK, FIELDS_FIRST, FIRST_ENTRY, HEADING, MOST_ENTRIES, MOST_STEPS,
+    Answer, Fast, Operations, Term, BLANK, FIELDS_FIRST, FIRST_ENTRY, HEADING, MOST_ENTRIES, MOST_ROWS, MOST_STEPS,
 };
 
 /// A row's process is ended after this time.
@@ -172,6 +172,12 @@ fn all_of(list: &[u32]) -> Vec<u32> {
     and_all(vec![1, 0, 0, 0], list)
 }
 
+/// The largest table: 256 times the equation of two fields, with steps on both sides that simplifying takes off.
+fn largest_table(steps: u32) -> Vec<u32> {
+    let [left, right] = [2, 1].map(|field| Term { field, steps }.word());
+    [2, left, right, 0].repeat(MOST_ROWS)
+}
+
 /// The parity of all but so many of the list's last questions, and that these are true.
 fn parity_and_last(list: &[u32], last: usize) -> Vec<u32> {
     let (others, last) = list.split_at(list.len() - 2 * last);
@@ -227,10 +233,10 @@ fn building(survey: Survey, rule: Vec<u32>) -> Run {
     changing(opened(&survey, MOST_ENTRIES), move |operations, store| operations.build(store, &rule).number)
 }
 
-/// Simplifies 1,000 equations.
-fn simplifying() -> Run {
+/// Simplifies 1,000 equations of any fields, whose terms have steps from a range.
+fn simplifying(fewest: u32, most: u32) -> Run {
     let mut random = Random::new(3);
-    let term = |random: &mut Random| Term { field: random.below(17), steps: random.below(MOST_STEPS + 1) }.word();
+    let term = |random: &mut Random| Term { field: random.below(17), steps: random.between(fewest, most) }.word();
     let pairs: Vec<(u32, u32)> = (0..1000).map(|_| (term(&mut random), term(&mut random))).collect();
     Box::new(move |operations| {
         let start = Instant::now();
@@ -278,7 +284,9 @@ fn rows() -> Vec<Row> {
 fn small_rows() -> Vec<Row> {
     const GROUP: &str = "Terms, opening and the test of a store";
     vec![
-        row(GROUP, "simplify, 1,000 pairs of terms", simplifying),
+        row(GROUP, "simplify, 1,000 pairs of terms", || simplifying(0, MOST_STEPS)),
+        row(GROUP, "simplify, 1,000 pairs of terms with no steps", || simplifying(0, 0)),
+        row(GROUP, "simplify, 1,000 pairs of terms with 1,023 steps each", || simplifying(MOST_STEPS, MOST_STEPS)),
         row(GROUP, "open, 20 questions, room for 4,096 entries", || {
             let survey = wide();
             changing(opened(&survey, MOST_ENTRIES), move |operations, store| {
@@ -318,6 +326,11 @@ fn build_rows() -> Vec<Row> {
         rows.push(row(SMALL, format!("the last {count} of the questions, all true"), move || {
             let list = wide().list;
             building(wide(), all_of(&list[list.len() - 2 * count..]))
+        }));
+    }
+    for (steps, named) in [(0, "no steps"), (MOST_STEPS, "1,023 steps on both sides")] {
+        rows.push(row(SMALL, format!("256 rows, each an equation with {named}"), move || {
+            building(wide(), largest_table(steps))
         }));
     }
     rows.push(row(LARGE, "six fields, parity of 20 questions", || building(dense(), parity_rule(&dense().list))));

@@ -1,4 +1,4 @@
--- `line_1` meets its contract: where its three tests fail, so does what line 1 says of an equation.
+-- `line_1` meets its contract: where one of its tests fails, line 1 does not apply.
 use native.Mathlib.Omega.{arith}
 use Rattle.terms.proofs.LineTests.{line_1_only}
 use Rattle.terms.proofs.lines.line_1.Goals as goal

@@ -1,5 +1,4 @@
--- Sequences of cases worked by hand: the lines followed, and the guards between them, each as two term words. All but the last are computed; each ends where no
--- case leads on.
+-- Sequences of cases worked by hand: the lines followed, and the guards between them, each as two term words. Each ends where no case leads on.
 use Prim.Native.Nat.{ℕ, zero, suc}
 use mathlib.Core.Path.{◌≡◌, refl, ap, subst}
 use native.Mathlib.Omega.{arith}
@@ -10,7 +9,7 @@ use Rattle.terms.specs.declared.simplification.Guard.TheVariants.{Never, Always,
 use Rattle.terms.specs.Form.{is_number, is_above, is_below}
 use Rattle.terms.specs.Simplify.{gap}
 use Rattle.terms.specs.Words.{field, equation, term_of}
-use Rattle.terms.specs.Lines.{S_times, Case, line_of, is_before, as_written, turned_round, line_1, line_2, line_3, line_4, line_5, nothing, first, lines, ByLine, ByLines, Normal}
+use Rattle.terms.specs.Lines.{S_times, Case, line_of, is_before, as_written, turned_round, line_1, line_2, line_3, line_4, line_5, nothing, first, line_numbers, ByLine, ByLines, Normal}
 use Rattle.terms.proofs.CaseOrForm.{normal_exactly}
 use Rattle.terms.proofs.LineTests.{line_1_only, line_4_only}
 
@@ -20,11 +19,11 @@ words l r = Question (equation (term_of l) (term_of r))
 
 -- a sequence that stands still, and one that begins with a case to h
 ends_at : (g : Guard) → ByLines [] g g
-unfolding lines
+unfolding line_numbers
 ends_at g = (nothing g, refl)
 
 leads_to : {g : Guard} (h : Guard) {k : Guard} {ks : List ℕ} (c : Case g h) → ByLines ks h k → ByLines (line_of c ∷ ks) g k
-unfolding lines
+unfolding line_numbers
 leads_to h c s = (first h c s.0, ap (λ ks. line_of c ∷ ks) s.1)
 
 -- S3(1) = S(2), words 97 34. Line 2 leads to S2(1) = 2, and line 5 turns it round: 2 = S2(1).
@@ -64,7 +63,7 @@ s_1_is_s_1 =
     (leads_to Always (line_1 (field 1))
     (ends_at Always))
 
--- Line 1 is of bare terms.
+-- Line 1 does not apply to them: it is about bare terms.
 pub s_1_is_s_1_not_by_1 : (h : Guard) → ByLine 1 (words 33 33) h → ⊥
 s_1_is_s_1_not_by_1 h b = omega (arith, line_1_only b.0 b.1)
 
@@ -84,7 +83,7 @@ s_1_is_s2_1_turned =
     (leads_to Never (line_4 (field 1) 0 as_written)
     (ends_at Never)))
 
--- Line 4 is of one bare term.
+-- Line 4 does not apply at once: one of its terms is bare.
 pub s_1_is_s2_1_not_by_4 : (h : Guard) → ByLine 4 (words 33 65) h → ⊥
 s_1_is_s2_1_not_by_4 h b = omega (arith, line_4_only b.0 b.1)
 
@@ -137,6 +136,32 @@ s2_2_is_one_normal = (normal_exactly (words 66 1)).1 (is_below (omega arith) (om
 -- Its gap is -2.
 pub s2_2_is_one_gap : gap (equation (term_of 66) (term_of 1)) ≡ negsuc 1
 s2_2_is_one_gap = refl
+
+-- 0 = S5(3), words 0 163: line 3 at once, the other way round, whatever steps are left.
+pub zero_is_s5_3 : ByLines (3 ∷ []) (words 0 163) Never
+zero_is_s5_3 =
+    leads_to Never (line_3 (term_of 131) turned_round)
+    (ends_at Never)
+
+-- 1 = S3(1), words 1 97: line 4 at once, the other way round.
+pub one_is_s3_1 : ByLines (4 ∷ []) (words 1 97) Never
+one_is_s3_1 =
+    leads_to Never (line_4 (field 1) 2 turned_round)
+    (ends_at Never)
+
+-- 1 = S(1), words 1 33: line 5 compares the steps of one field, and leads to S(1) = 1; then line 4.
+pub one_is_s_1_turned : ByLines (5 ∷ 4 ∷ []) (words 1 33) Never
+unfolding is_before
+one_is_s_1_turned =
+    leads_to (words 33 1) (line_5 (term_of 1) (term_of 33) refl)
+    (leads_to Never (line_4 (field 1) 0 as_written)
+    (ends_at Never))
+
+-- S(0) = 0, words 32 0: line 4 takes it as well as line 3, since x may be zero.
+pub s_0_is_zero_by_4 : ByLines (4 ∷ []) (words 32 0) Never
+s_0_is_zero_by_4 =
+    leads_to Never (line_4 (field 0) 0 as_written)
+    (ends_at Never)
 
 -- S^m(x) = S^m(x): line 2 m times, to x = x, then line 1.
 pub steps_in_common : (x : Field) (m : ℕ) → ByLines (replicate m 2 ++ (1 ∷ [])) (Question (equation (S_times m x) (S_times m x))) Always
