@@ -51,7 +51,7 @@ pub struct SimplifyAnswer {
     pub gap: i32,
 }
 
-// Line 2, as long as it applies. The compiler makes a subtraction of a loop of its own, so the time does not grow with the steps.
+// Line 2, as long as it applies. It has a loop of its own, of which the compiler makes a subtraction: so the time does not grow with the steps.
 fn steps_off(e: Equation) -> Guard
     ensures { lines.Exhausted 2 (guard.Question e) result }
 {

@@ -89,9 +89,10 @@ pub mod occasion {
         (&[3, 4, 5], "lines 3, 4 and 5 of simplification at once"),
     ];
     pub const LONGEST_SEQUENCE: &str = "1,024 cases of simplification for one equation";
+    pub const TURNED_LATE: &str = "line 5 of simplification picked after more than 100 cases";
 
     /// Every occasion.
-    pub const ALL: [&str; 58] = [
+    pub const ALL: [&str; 59] = [
         LIST_IN_ONE_ORDER,
         LIST_IN_BOTH_ORDERS,
         FIELDS_BEFORE_ORDER,
@@ -150,6 +151,7 @@ pub mod occasion {
         LINES_AT_ONCE[3].1,
         LINES_AT_ONCE[4].1,
         LONGEST_SEQUENCE,
+        TURNED_LATE,
     ];
 }
 

@@ -7,7 +7,10 @@ use compare::random::Random;
 use independent::{Guard, Term, MOST_FIELDS, MOST_STEPS};
 
 /// How many sequences are followed for each pair of terms.
-const SEQUENCES: usize = 8;
+const SEQUENCES: usize = 20;
+/// In half of the sequences line 5 is taken, where another line applies as well, in one of so many cases: so it comes late too, when line 2 has
+/// taken many steps off.
+const LATE: u32 = 500;
 
 /// Pairs of small terms: all guards that some sequence of cases leads to.
 pub fn every_order(comparison: &mut Comparison, _random: &mut Random, _cases: u64) {
@@ -48,11 +51,12 @@ fn follow_all(comparison: &mut Comparison, start: Guard) {
 
 /// Pairs of terms of up to 1,023 steps, each simplified several times by lines picked at random among those that apply.
 pub fn picked_at_random(comparison: &mut Comparison, random: &mut Random, cases: u64) {
-    for _ in 0..cases {
+    for _ in 0..cases / 2 {
         let start = equation(random);
         let expected = simplified(comparison, start);
-        for _ in 0..SEQUENCES {
-            follow_one(comparison, random, start, expected);
+        for sequence in 0..SEQUENCES {
+            let turned_in = if sequence % 2 == 0 { 1 } else { LATE };
+            follow_one(comparison, random, start, expected, turned_in);
         }
     }
 }
@@ -69,7 +73,7 @@ fn equation(random: &mut Random) -> Guard {
     Guard::Equation(left, right)
 }
 
-fn follow_one(comparison: &mut Comparison, random: &mut Random, start: Guard, expected: Guard) {
+fn follow_one(comparison: &mut Comparison, random: &mut Random, start: Guard, expected: Guard, turned_in: u32) {
     let mut guard = start;
     let mut lines = Vec::new();
     loop {
@@ -78,7 +82,7 @@ fn follow_one(comparison: &mut Comparison, random: &mut Random, start: Guard, ex
         if cases.is_empty() {
             break;
         }
-        let (line, next) = *random.pick(&cases);
+        let (line, next) = pick(random, &cases, turned_in);
         comparison.meet(occasion::LINES[line - 1]);
         lines.push(line);
         guard = next;
@@ -88,6 +92,19 @@ fn follow_one(comparison: &mut Comparison, random: &mut Random, start: Guard, ex
     comparison.test("how many cases there can be", lines.len() <= start.most_cases(), describe);
     if lines.len() > MOST_STEPS as usize {
         comparison.meet(occasion::LONGEST_SEQUENCE);
+    }
+    if lines.iter().skip(100).any(|line| *line == 5) {
+        comparison.meet(occasion::TURNED_LATE);
+    }
+}
+
+/// One of the cases that apply, line 5 beside another in one of so many.
+fn pick(random: &mut Random, cases: &[(usize, Guard)], turned_in: u32) -> (usize, Guard) {
+    loop {
+        let case = *random.pick(cases);
+        if case.0 != 5 || cases.len() == 1 || random.one_in(turned_in) {
+            return case;
+        }
     }
 }
 
