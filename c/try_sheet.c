@@ -254,7 +254,7 @@ static void steps_simplified(void)
     simplify("viii simplify S1023(16) = 15", 32752, 15, (sheet_simplified){0, 2, 32752, 15, -1023});
 }
 
-/* Document 02 (iv), line by line: several lines apply to each, and in the last two line 2 does, 1,022 and 1,023 times. */
+/* Document 02 (iv), line by line: in the last two a step is taken off both sides 1,022 and 1,023 times. */
 static void simplified_case_by_case(void)
 {
     simplify("iv simplify 0 = S(0)", 0, 32, (sheet_simplified){0, 0, 0, 0, 0});

@@ -3,7 +3,10 @@
 use Prim.Native.Nat.{◌<◌}
 use mathlib.Core.Path.{◌≡◌, refl, sym, ◌∙◌}
 use mathlib.Core.Logic.{inl, inr}
+use mathlib.Core.Bool.{cond}
 use native.Mathlib.Omega.{arith}
+use borrow.Author.Tests.{eq-eqb, ne_eqb}
+use lib.Dec.{eqb}
 use Rattle.terms.specs.declared.term.Equation.{Equation}
 use Rattle.terms.specs.declared.simplification.Guard.{Guard}
 use Rattle.terms.specs.declared.simplification.Guard.TheVariants.{Never, Always, Question}
@@ -21,12 +24,16 @@ answer_of Never = Never
 answer_of Always = Always
 answer_of (Question e) = simplify e
 
+-- of one field on both sides the step counts decide
+same_field : (e : Equation) → e.left.field.0 ≡ e.right.field.0 → simplify e ≡ cond (eqb e.left.steps.0 e.right.steps.0) Always Never
+unfolding simplify
+same_field e f = simp (eq-eqb e.left.field.0 e.right.field.0 f)
+
 same_field_always : (e : Equation) → SameAndBare e → simplify e ≡ Always
-same_field_always e (f, l, r) = simplify_cases (λ g. g ≡ Always) e (λ _ _. refl) (λ _ n. absurd (n (omega arith))) go
-  where
-    go : (d : Equation) → Sorted e d → never_or_question (lowered d) ≡ Always
-    go d (kept h) = absurd (omega arith)
-    go d (swapped h) = absurd (omega arith)
+same_field_always e (f, l, r) = same_field e f ∙ simp (eq-eqb e.left.steps.0 e.right.steps.0 (omega arith))
+
+same_field_never : (e : Equation) → SameAndOneBare e → simplify e ≡ Never
+same_field_never e (f, b) = same_field e f ∙ simp (ne_eqb e.left.steps.0 e.right.steps.0 (λ s. omega (arith, s, b)))
 
 -- zero against steps: the smaller count, none, is taken off, and steps remain
 steps_left_over : (e : Equation) → 0 < e.left.steps.0 → e.right.field.0 ≡ 0 → e.right.steps.0 ≡ 0 → simplify e ≡ Never
@@ -40,13 +47,6 @@ steps_left_over e l f r = simplify_cases (λ g. g ≡ Never) e (λ _ s. absurd (
 zero_never : (e : Equation) → ZeroAndSteps e → simplify e ≡ Never
 zero_never e (inl (l, f, r)) = steps_left_over e l f r
 zero_never e (inr (r, f, l)) = sym (simplify_turned e) ∙ steps_left_over (turned e) r f l
-
-same_field_never : (e : Equation) → SameAndOneBare e → simplify e ≡ Never
-same_field_never e (f, b) = simplify_cases (λ g. g ≡ Never) e (λ _ s. absurd (omega (arith, b))) (λ _ _. refl) go
-  where
-    go : (d : Equation) → Sorted e d → never_or_question (lowered d) ≡ Never
-    go d (kept h) = absurd (omega arith)
-    go d (swapped h) = absurd (omega arith)
 
 -- Both guards of a case have the same answer,
 pub case_keeps_answer : {g h : Guard} → Case g h → answer_of g ≡ answer_of h

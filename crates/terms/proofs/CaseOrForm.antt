@@ -10,7 +10,7 @@ use Rattle.terms.specs.declared.simplification.Guard.{Guard}
 use Rattle.terms.specs.declared.simplification.Guard.TheVariants.{Never, Always, Question}
 use Rattle.terms.specs.Form.{SimplifiedForm, InForm}
 use Rattle.terms.specs.Lines.{Case, line_1, line_2, line_3, line_4, line_5, Normal}
-use Rattle.terms.proofs.LineTests.{ZeroAndSteps, one_less, line_3_only, line_4_only, line_1_applies, line_2_applies, line_3_applies, line_4_applies, line_5_applies}
+use Rattle.terms.proofs.LineTests.{ZeroAndSteps, one_step_less, line_3_only, line_4_only, line_1_applies, line_2_applies, line_3_applies, line_4_applies, line_5_applies}
 use Rattle.terms.proofs.SimplifyForm.{by_numbers, smaller_right, bare_side, bare_left}
 use Rattle.terms.proofs.TermOrder.{Smaller, before_says, before_exactly}
 
@@ -55,7 +55,7 @@ module _ (e : Equation) where
   question_or_form : LeadsOn (Question e) ⊎ SimplifiedForm e
   question_or_form =
       elim (dec_lt 0 (min e.left.steps.0 e.right.steps.0)) [
-        | yes h ↦ inl (_, (line_2_applies e (one_less e.left (omega arith)) (one_less e.right (omega arith))).0)
+        | yes h ↦ inl (_, (line_2_applies e (one_step_less e.left (omega arith)) (one_step_less e.right (omega arith))).0)
         | no n ↦ one_bare (omega arith)
       ]
 

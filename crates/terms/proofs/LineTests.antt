@@ -19,8 +19,8 @@ use Rattle.terms.proofs.Numbers.{equations_equal}
 at_equal : (k : ℕ) (p e : Equation) (h : Guard) → p ≡ e → ByLine k (Question p) h → ByLine k (Question e) h
 at_equal k p e h i b = subst (λ q. ByLine k (Question q) h) i b
 
-pub one_less : (t : Term) → 0 < t.steps.0 → S (less_steps 1 t) ≡ t
-one_less t h = same_numbers refl (omega arith)
+pub one_step_less : (t : Term) → 0 < t.steps.0 → S (less_steps 1 t) ≡ t
+one_step_less t h = same_numbers refl (omega arith)
   where
     same_numbers : {r t : Term} → r.field.0 ≡ t.field.0 → r.steps.0 ≡ t.steps.0 → r ≡ t
     same_numbers f s = λ i. term (field (f i)) (steps (s i))

@@ -76,11 +76,12 @@ line_numbers (first h c s) = line_of c ∷ line_numbers s
 abbrev pub ByLines : List ℕ → Guard → Guard → Type 0
 ByLines ks g h = (s : Sequence g h) × (line_numbers s ≡ ks)
 
--- a sequence of line k and no other leads from g to h
+-- every case of a sequence is of line k
 abbrev pub Only : ℕ → {g h : Guard} → Sequence g h → Type 0
 Only k (nothing g) = Unit {0}
 Only k (first h c s) = (line_of c ≡ k) × Only k s
 
+-- line k and no other, any number of times, leads from g to h
 abbrev pub Repeated : ℕ → Guard → Guard → Type 0
 Repeated k g h = (s : Sequence g h) × Only k s
 
@@ -88,8 +89,8 @@ Repeated k g h = (s : Sequence g h) × Only k s
 abbrev pub Normal : Guard → Type 0
 Normal g = (h : Guard) → Case g h → ⊥
 
--- ---- no sequence is longer
--- A number that falls with each case, line 2 taking four off it and line 5 one.
+-- ---- a bound on the cases of a sequence
+-- A number that falls with each case: line 2 takes four off it, and line 5 one.
 unfoldable pub most_cases : Guard → ℕ
 most_cases Never = 0
 most_cases Always = 0

@@ -22,7 +22,7 @@ fn is_before(r: Term, t: Term) -> bool
 }
 
 // The term x of a term S(x).
-#[tactic(auto, using(crate::proofs::LineTests::one_less))]
+#[tactic(auto, using(crate::proofs::LineTests::one_step_less))]
 fn step_off(t: Term) -> Term
     requires { 0 < t.steps.0 }
     ensures { spec.S result ≡ t }
@@ -100,11 +100,11 @@ fn line_5(e: Equation) -> Option<Guard>
     None
 }
 
-// What a line that applies makes of a guard, the first of them, or nothing if none applies.
-pub fn one_case(guard: Guard) -> Option<Guard>
-    ensures { spec.Stepped guard result }
+// What the first line that applies makes of a guard, or nothing if none applies. Which one it is makes no difference in the end.
+pub fn one_case(g: Guard) -> Option<Guard>
+    ensures { spec.Stepped g result }
 {
-    match guard {
+    match g {
         Guard::Never | Guard::Always => None,
         Guard::Question(e) => line_1(e)
             .or(line_2(e))

@@ -8,12 +8,12 @@ use independent::{Guard, Term, MOST_FIELDS, MOST_STEPS};
 
 /// How many sequences are followed for each pair of terms.
 const SEQUENCES: usize = 20;
-/// In half of the sequences line 5 is taken, where another line applies as well, in one of so many cases: so it comes late too, when line 2 has
-/// taken many steps off.
+/// In half of the sequences line 5, picked where another line applies as well, is taken once in so many times: so it also comes late, when line 2
+/// has taken many steps off.
 const LATE: u32 = 500;
 
 /// Pairs of small terms: all guards that some sequence of cases leads to.
-pub fn every_order(comparison: &mut Comparison, _random: &mut Random, _cases: u64) {
+pub fn every_order(comparison: &mut Comparison, _: &mut Random, _: u64) {
     let terms: Vec<Term> = (0..4).flat_map(|field| (0..5).map(move |steps| Term { field, steps })).collect();
     for left in &terms {
         for right in &terms {
@@ -89,7 +89,7 @@ fn follow_one(comparison: &mut Comparison, random: &mut Random, start: Guard, ex
     }
     let describe = || format!("{start:?} ended in {guard:?} by the lines {lines:?}, simplify in {expected:?}");
     comparison.test("the end of the cases, picked at random", guard == expected, describe);
-    comparison.test("how many cases there can be", lines.len() <= start.most_cases(), describe);
+    comparison.test("a bound on the cases of a sequence", lines.len() <= start.most_cases(), describe);
     if lines.len() > MOST_STEPS as usize {
         comparison.meet(occasion::LONGEST_SEQUENCE);
     }
@@ -98,7 +98,7 @@ fn follow_one(comparison: &mut Comparison, random: &mut Random, start: Guard, ex
     }
 }
 
-/// One of the cases that apply, line 5 beside another in one of so many.
+/// One of the cases that apply; line 5, picked beside another, is taken once in so many times.
 fn pick(random: &mut Random, cases: &[(usize, Guard)], turned_in: u32) -> (usize, Guard) {
     loop {
         let case = *random.pick(cases);
