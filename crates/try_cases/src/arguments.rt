@@ -1,44 +1,82 @@
-// The numbers that a line of the script gives: those before the bar, and those after it, if it has a bar.
-use evaluator::at;
-use std::alloc::{AllocError, Global};
+// The numbers that a line of the script gives. A digit continues the number before it, any other byte ends it, and whether a bar stands among them says
+// how they are taken. In the value itself, with no allocator: a line can't run out of memory, however long it is.
+use evaluator::{at, first, put};
 
-#[derive(Drop)]
+// The most numbers of a line, and the most words of a store.
+pub const MOST_NUMBERS: usize = 136;
+
+#[derive(Clone, Copy)]
 pub struct Arguments {
-    numbers: Vec<u32>,
-    pub listed: Option<Vec<u32>>,
+    words: [u32; MOST_NUMBERS],
+    count: usize,
+    pub has_bar: bool,
+    // whether the last number may go on
+    is_open: bool,
 }
 
-// The numbers of a text, whose other words say nothing.
-fn numbers_of(alloc: Global, text: &str) -> Result<Vec<u32>, AllocError> {
-    text.split_ascii_whitespace()
-        .filter_map(|word| word.parse().ok())
-        .collect(alloc)
+// A number with one more digit, modulo 2^32.
+fn longer(number: u32, digit: u8) -> u32 {
+    number.wrapping_mul(10).wrapping_add(u32::from(digit % 48))
 }
 
 impl Arguments {
-    pub fn of(alloc: Global, text: &str) -> Result<Arguments, AllocError> {
-        match text.split_once('|') {
-            Some((before, after)) => Ok(Arguments {
-                numbers: numbers_of(alloc, before)?,
-                listed: Some(numbers_of(alloc, after)?),
-            }),
-            None => Ok(Arguments {
-                numbers: numbers_of(alloc, text)?,
-                listed: None,
-            }),
+    pub fn of(line: &[u8]) -> Arguments {
+        let mut given = Arguments {
+            words: [0; MOST_NUMBERS],
+            count: 0,
+            has_bar: false,
+            is_open: false,
+        };
+        for byte in line {
+            given.take(*byte);
+        }
+        given.end_number();
+        given
+    }
+
+    fn take(&mut self, byte: u8) {
+        match byte {
+            b'0'..=b'9' => self.add_digit(byte),
+            b'|' => self.add_bar(),
+            _ => self.end_number(),
         }
     }
 
-    // A number before the bar, 0 if there are not so many.
+    fn add_digit(&mut self, digit: u8) {
+        let number = longer(at(&self.words, self.count), digit);
+        put(&mut self.words, self.count, number);
+        self.is_open = true;
+    }
+
+    // After so many numbers that no other has room they are counted anew, and are written over.
+    fn end_number(&mut self) {
+        self.count = self.count % MOST_NUMBERS + usize::from(self.is_open);
+        self.is_open = false;
+    }
+
+    // A bar behind the last number that has room says nothing.
+    fn add_bar(&mut self) {
+        self.end_number();
+        self.has_bar = self.count < MOST_NUMBERS;
+    }
+
+    // A number, 0 if there are not so many.
     pub fn number(&self, place: usize) -> u32 {
-        at(self.numbers.as_slice(), place)
+        at(&self.words, place)
     }
 
-    // The numbers after the bar, none if there is no bar.
+    // All numbers.
     pub fn list(&self) -> &[u32] {
-        match &self.listed {
-            Some(words) => words.as_slice(),
-            None => &[],
-        }
+        first(&self.words, self.count)
+    }
+
+    // The numbers after the first one; without any the room for them, which is zeros.
+    pub fn table(&self) -> &[u32] {
+        self.words.get(1..self.count).unwrap_or(&self.words)
+    }
+
+    // All numbers, and the room behind them.
+    pub fn words(&self) -> [u32; MOST_NUMBERS] {
+        self.words
     }
 }

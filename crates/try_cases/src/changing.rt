@@ -1,122 +1,159 @@
 // The calls that may change the store: each is made, its answer printed with the store afterwards, and both compared with the evaluator's.
-use crate::arguments::Arguments;
-use crate::asking::simplify;
+use crate::arguments::{Arguments, MOST_NUMBERS};
 use crate::comparing::{Remark, is_same};
+use crate::lending::Lent;
 use crate::names::Name;
 use crate::printing::{Answered, Listed};
 use evaluator::{
-    Call, Opening, Refusal, Side, Store, expect_added, expect_opened, expect_raw_opened,
+    Call, Limits, Opening, Refusal, Side, Store, Words, expect_added, expect_opened,
+    expect_raw_opened, first,
 };
 use sheet::{
     Answer, sheet_build, sheet_choose, sheet_join, sheet_logger_build, sheet_logger_open,
     sheet_negate, sheet_open, sheet_open_raw,
 };
-use std::alloc::{AllocError, Global};
 use std::io;
 
-// What a call does to a store. The logger has opening and build alone.
+// What a call does to a store. A call that adds a diagram stands with the one whose tests it has to pass.
 #[derive(Clone, Copy)]
 enum Change<'a> {
-    Open(Side, Opening<'a>),
+    Open(Opening<'a>),
     OpenRaw(Opening<'a>),
-    Add(Call<'a>),
-    LoggerBuild(&'a [u32]),
+    Add(Call<'a>, Call<'a>),
+}
+
+// A list stands after the number of fields and the order; a rule table stands by itself.
+fn list_of(words: &[u32]) -> &[u32] {
+    words.get(2..).unwrap_or(words)
 }
 
 // A change by the name of the call: opening takes the number of fields, the order and a list, build a table, and the others handles.
-fn change_of<'a>(name: Name, given: &Arguments, words: &'a [u32]) -> Option<Change<'a>> {
+fn change_of<'a>(name: Name, given: &Arguments, words: &'a [u32]) -> Change<'a> {
     let [a, b, c] = [given.number(0), given.number(1), given.number(2)];
     let opening = Opening {
         n: a,
         order: b,
-        list: words,
+        list: list_of(words),
     };
-    Some(match (name.letter, name.side) {
-        (b'o', _) if name.raw => Change::OpenRaw(opening),
-        (b'o', side) => Change::Open(side, opening),
-        (b'b', Side::Logger) => Change::LoggerBuild(words),
-        (b'b', Side::Institute) => Change::Add(Call::Build(words)),
-        (b'n', _) => Change::Add(Call::Negate(a)),
-        (b'j', _) => Change::Add(Call::Join(a, b)),
-        (b'c', _) => Change::Add(Call::Choose(a, b, c)),
-        _ => return None,
-    })
+    // The first three numbers have to be handles, also those that the call doesn't take.
+    let choice = Call::Choose(a, b, c);
+    match name.letter {
+        b'b' => Change::Add(Call::Build(words), Call::Build(words)),
+        b'n' => Change::Add(Call::Negate(a), choice),
+        b'j' => Change::Add(Call::Join(a, b), choice),
+        b'c' => Change::Add(choice, choice),
+        _ if name.raw => Change::OpenRaw(opening),
+        _ => Change::Open(opening),
+    }
+}
+
+// What the evaluator expects of a call that has to pass another's tests.
+fn expect_tested(
+    limits: Limits,
+    store: &[u32],
+    call: Call<'_>,
+    tested: Call<'_>,
+    after: &mut [u32],
+) -> Result<u32, Refusal> {
+    match expect_added(limits, Store(store), tested, after) {
+        Err(refusal @ (Refusal::NoStore | Refusal::NoHandle)) => Err(refusal),
+        _ => expect_added(limits, Store(store), call, after),
+    }
 }
 
 impl Change<'_> {
-    // As in try_rules: the evaluator may call none of these, and a crate for twelve lines is no plainer.
+    // The institute's calls. As in try_rules: the evaluator may call none of these, and a crate for twelve lines is no plainer.
     fn perform(self, store: &mut [u32]) -> Answer {
         match self {
-            Change::Open(Side::Institute, o) => sheet_open(o.n, o.order, o.list, store),
-            Change::Open(Side::Logger, o) => sheet_logger_open(o.n, o.order, o.list, store),
+            Change::Open(o) => sheet_open(o.n, o.order, o.list, store),
             Change::OpenRaw(o) => sheet_open_raw(o.n, o.order, o.list, store),
-            Change::Add(Call::Build(table)) => sheet_build(store, table),
-            Change::Add(Call::Negate(a)) => sheet_negate(store, a),
-            Change::Add(Call::Join(a, b)) => sheet_join(store, a, b),
-            Change::Add(Call::Choose(a, b, c)) => sheet_choose(store, a, b, c),
-            Change::LoggerBuild(table) => sheet_logger_build(store, table),
+            Change::Add(Call::Build(table), _) => sheet_build(store, table),
+            Change::Add(Call::Negate(a), _) => sheet_negate(store, a),
+            Change::Add(Call::Join(a, b), _) => sheet_join(store, a, b),
+            Change::Add(Call::Choose(a, b, c), _) => sheet_choose(store, a, b, c),
         }
     }
 
-    // What the evaluator expects; the store's words afterwards go into a slice that is as long.
-    fn expect(self, store: &[u32], after: &mut [u32]) -> Result<u32, Refusal> {
+    // The logger has opening and build: any other call of its own is a build of what the line gives.
+    fn perform_logged(self, store: &mut [u32], words: &[u32]) -> Answer {
         match self {
-            Change::Open(side, opening) => {
+            Change::Open(o) => sheet_logger_open(o.n, o.order, o.list, store),
+            _ => sheet_logger_build(store, words),
+        }
+    }
+
+    // What the evaluator expects within a side's limits, with a raw list by the institute alone; the store's words afterwards go into a slice that is
+    // long enough.
+    fn expect(self, side: Side, store: &[u32], after: &mut [u32]) -> Result<u32, Refusal> {
+        match self {
+            Change::Open(opening) => {
                 expect_opened(side.limits(), opening, store, after).map(|_| 0)
             }
             Change::OpenRaw(opening) => expect_raw_opened(opening, store, after).map(|_| 0),
-            Change::Add(call) => {
-                expect_added(Side::Institute.limits(), Store(store), call, after)
-            }
-            Change::LoggerBuild(table) => {
-                expect_added(
-                    Side::Logger.limits(),
-                    Store(store),
-                    Call::Build(table),
-                    after,
-                )
-            }
+            Change::Add(call, tested) => expect_tested(side.limits(), store, call, tested, after),
         }
     }
 
     // The answer to opening depends on no word of the store.
     fn is_known(self, store: &[u32], expected: Result<u32, Refusal>) -> bool {
         match self {
-            Change::Open(..) | Change::OpenRaw(_) => true,
-            Change::Add(_) | Change::LoggerBuild(_) => Store(store).knows(expected),
+            Change::Open(_) | Change::OpenRaw(_) => true,
+            Change::Add(..) => Store(store).knows(expected),
         }
     }
 }
 
-fn make(rt: &(impl Print + AllocGlobal), store: &mut [u32], change: Change<'_>) -> io::Result<()> {
-    let mut after = vec![in rt.alloc(); 0; store.len()]?;
-    let expected = change.expect(store, after.as_mut_slice());
-    let known = change.is_known(store, expected);
-    let found = change.perform(store);
-    let same = is_same(found, expected) && after.as_slice() == &*store;
-    let remark = Remark::of(known, same);
-    print!(rt; "{}{}{remark}", Answered(found), Listed(store))
-}
-
-// So many rows always, at most one more than a table may have.
-fn always_rows(alloc: Global, rows: u32) -> Result<Vec<u32>, AllocError> {
-    [1, 0, 0, 0].repeat(alloc, rows.min(257) as usize)
-}
-
-// A call by its name, with what stands after the bar, or with so many rows; simplify where the name is none of these.
-pub fn make_change(
-    rt: &(impl Print + AllocGlobal),
+// A call by its name, with the words that it gives.
+fn make(
+    rt: &impl Print,
     store: &mut [u32],
     name: Name,
     given: &Arguments,
+    words: &[u32],
 ) -> io::Result<()> {
-    let rows = always_rows(rt.alloc(), given.number(0))?;
-    let words = match &given.listed {
-        Some(listed) => listed.as_slice(),
-        None => rows.as_slice(),
+    let change = change_of(name, given, words);
+    let mut after = [0; MOST_NUMBERS];
+    let expected = change.expect(name.side, store, &mut after);
+    let known = change.is_known(store, expected);
+    let found = match name.side {
+        Side::Institute => change.perform(store),
+        Side::Logger => change.perform_logged(store, words),
     };
-    match change_of(name, given, words) {
-        Some(change) => make(rt, store, change),
-        None => simplify(rt, given.number(0), given.number(1)),
+    let same = is_same(found, expected) && first(&after, store.len()) == &*store;
+    let remark = Remark::of(known, same);
+    print!(rt; "{}{}{remark}", Answered(found), Listed(&*store))
+}
+
+// The most rows that are made, one more than a table may have.
+const MOST_MADE: u32 = 257;
+
+const MADE_LENGTH: usize = 4 * MOST_MADE as usize;
+
+// So many rows of always, as far as they are made.
+fn always_rows(rows: u32) -> Words<MADE_LENGTH> {
+    let mut table = Words::new();
+    for _ in 0..rows.min(MOST_MADE) {
+        table.extend_from_slice(&[1, 0, 0, 0]);
+    }
+    table
+}
+
+// A call with the numbers of its line, or without a bar with so many rows; nothing if the store has not as many words as it was lent with.
+pub fn make_change(
+    rt: &impl Print,
+    lent: &mut Lent,
+    name: Name,
+    given: &Arguments,
+) -> io::Result<()> {
+    match lent.store_mut() {
+        Some(store) if given.has_bar => make(rt, store, name, given, given.list()),
+        Some(store) => make(
+            rt,
+            store,
+            name,
+            given,
+            always_rows(given.number(0)).as_slice(),
+        ),
+        None => Ok(()),
     }
 }

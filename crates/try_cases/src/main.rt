@@ -8,17 +8,18 @@ mod calls;
 mod changing;
 mod comparing;
 mod diagrams;
+mod input;
 mod lending;
 mod names;
 mod printing;
 
-use crate::lending::Lent;
 use std::io;
 
+// The most bytes of a script; what stands after them is not read.
+const MOST_BYTES: usize = 24576;
+
 fn main(rt: HostRuntime) -> io::Result<()> {
-    let mut lent = Lent::nothing(rt.alloc());
-    for line in rt.lines(rt.alloc()) {
-        calls::run_line(&rt, &mut lent, line?.as_str())?;
-    }
-    Ok(())
+    let mut text = [0u8; MOST_BYTES];
+    let end = input::read_full(&mut rt.reader(), &mut text)?;
+    calls::run(&rt, &text[..end])
 }
