@@ -29,7 +29,7 @@ fn numbers_sound(questions: u32, i: usize, e: Entry) -> bool
     question_listed && wide(e.yes) < own && wide(e.no) < own && e.yes != e.no
 }
 
-impl Entries<'_> {
+impl<'a> Entries<'a> {
     // Whether a handle that an entry names is a leaf, or names an entry with a larger question number.
     fn asks_before(self, e: Entry, handle: usize) -> bool
         requires { handle < self.count + leaves }
@@ -57,14 +57,19 @@ impl Entries<'_> {
         (0..self.count).all(|i| self.is_sound(i))
     }
 
-    // Whether the words after the entries are zero.
+    // The words after the entries.
+    fn unused(self) -> &'a [u32]
+        ensures { result.now ≡ drop (self.entry.start + 3 * self.entry.count) self.entry.store.now }
+    {
+        self.store.get(self.start + 3 * self.count..).unwrap_or(&[])
+    }
+
+    // Whether the words after the entries are zero. They are taken as a slice: `skip` would ask at each word whether it still skips, and a large store
+    // with few entries took twice as long to test.
     fn zero_after(self) -> bool
         ensures { result ≡ spec.all_zero (drop (self.entry.start + 3 * self.entry.count) self.entry.store.now) }
     {
-        self.store
-            .iter()
-            .skip(self.start + 3 * self.count)
-            .all(|word| *word == 0)
+        self.unused().iter().all(|word| *word == 0)
     }
 
     // Whether the entries keep their rules, no two of them are equal, and the words after them are zero.
