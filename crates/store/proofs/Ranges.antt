@@ -2,11 +2,11 @@
 -- through the same numbers and words, the one from the front and the other from the back.
 use Prim.Native.Nat.{ℕ, zero, suc, ◌+◌}
 use mathlib.Core.Path.{◌≡◌, refl, ◌∙◌, ap, sym}
-use mathlib.Core.Bool.{Bool, true, false, ◌&&◌, ◌||◌, or-false, or_comm}
+use mathlib.Core.Bool.{Bool, true, false, ◌&&◌}
 use mathlib.Core.List.{List, [], ◌∷◌, ◌++◌}
 use native.Mathlib.Omega.{arith}
 use lib.Dec.{eqb}
-use Rattle.std.specs.List.{list_all, list_any, range_with_len}
+use Rattle.std.specs.List.{list_all, range_with_len}
 use Rattle.std.proofs.iter.Yields.{nat_range_steps}
 use Rattle.std.proofs.lemmas.Iterator.{YieldsList-from_range}
 use Rattle.std.proofs.lemmas.Iterator.Search.{all_from_yields_List}
@@ -17,7 +17,7 @@ use Rattle.std.specs.Option.{MatchOption}
 use Rattle.std.specs.Prelude.{Option}
 use Rattle.std.specs.declared.ops.Range.{Range}
 use denote.Param.Members.{Mut}
-use Rattle.std.proofs.lemmas.List.Folds.{list_all-append, list_any-append}
+use Rattle.std.proofs.lemmas.List.Folds.{list_all-append}
 use Rattle.store.specs.Sound.{all_below, all_zero}
 
 range_more : (a n : ℕ) → range_with_len a (suc n) ≡ range_with_len a n ++ (a + n) ∷ []
@@ -43,14 +43,6 @@ pub list_all-zero : (ws : List ℕ) → list_all (λ w. eqb w 0) ws ≡ all_zero
 unfolding all_zero
 list_all-zero [] = refl
 list_all-zero (w ∷ ws) = ap (λ b. eqb w 0 && b) (list_all-zero ws)
-
--- the same of a look for one that passes, whichever way a definition goes down the numbers
-pub list_any-range : (p f : ℕ → Bool) → f 0 ≡ false → ((k : ℕ) → f (suc k) ≡ (p k || f k)) → (n : ℕ) → list_any p (range_with_len 0 n) ≡ f n
-list_any-range p f z s zero = sym z
-list_any-range p f z s (suc n) =
-    let e : 0 + n ≡ n = omega arith in
-    ap (list_any p) (range_more 0 n) ∙ list_any-append p (range_with_len 0 n) ((0 + n) ∷ [])
-    ∙ simp (or-false, list_any-range p f z s n, e) (or_comm (f n) (p n)) ∙ sym (s n)
 
 -- What `(0..n).all(..)` answers, whose closure answers as a test.
 pub all_tested : {F : Type 0} {g : Mut F (ℕ × Unit {0}) Bool} {s : Range ℕ} (p : ℕ → Bool) (n : ℕ) {u : Range ℕ} {f : F} {r : Bool}

@@ -18,11 +18,12 @@ pub struct Listing<'a> {
 }
 
 impl Listing<'_> {
-    // Whether an equation is one of the list's questions.
+    // Whether an equation is one of the list's questions. From the last one down, as the definition goes: `rev` has no law for ranges yet.
     fn has_question(self, q: Equation) -> bool
         ensures { result ≡ spec.on_list self.entry.store.now q (question_count self.entry.store.now) }
     {
-        (0..wide(question_count(self.store))).any(|k| question_at(self.store, k + 1) == q)
+        let n = wide(question_count(self.store));
+        (0..n).any(|k| question_at(self.store, n - k) == q)
     }
 
     // Whether a simplified equation is never, always, or on the list.
