@@ -6,14 +6,14 @@ use crate::entry::Indexed;
 use terms::MOST_ENTRIES;
 
 // How many entries an index holds, and over how many buckets it spreads them.
-const CAPACITY: usize = MOST_ENTRIES as usize;
+pub const CAPACITY: usize = MOST_ENTRIES as usize;
 
 pub const BUCKETS: usize = CAPACITY;
 
 // How many entries it holds, for each bucket the last entry in it, and for each entry the one before it in its bucket: one more
 // than the entry's number, and 0 where there is none. No Option: at two bytes more a link the index would take 16,384 bytes more, and build uses over
 // 45,000 of the 65,536 bytes of stack already.
-#[derive(Drop)]
+#[derive(Clone, Copy)]
 pub struct Index {
     count: u16,
     lasts: [u16; BUCKETS],

@@ -6,6 +6,6 @@ mod differing;
 mod entry;
 mod store_entry;
 
-pub use chains::{BUCKETS, Index};
+pub use chains::{BUCKETS, CAPACITY, Index};
 pub use differing::entries_differ;
 pub use entry::Indexed;
