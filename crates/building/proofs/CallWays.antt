@@ -9,16 +9,15 @@ use native.Mathlib.Omega.{arith}
 use borrow.Author.Tests.{lt-ltb}
 use lib.Dec.{eqb}
 use Rattle.std.proofs.Common.{Ok, Err}
-use Rattle.std.specs.Result.{IsErr, IsErrAnd}
-use Rattle.std.proofs.lemmas.Result.{err_from_is_err_and}
 use Rattle.building.specs.Needs.{are_handles}
 use Rattle.inserting.specs.SubjectMeaning.{choice}
+use Rattle.operations.specs.declared.answer.BuildFault.{BuildFault}
 use Rattle.operations.specs.declared.answer.BuildFault.TheVariants.{NotSound, NoHandle, BadTable}
 use Rattle.operations.specs.Built.{Built}
 use Rattle.operations.specs.Operations.{refused, if_sound, if_handles, if_taken, added, add_meaning, build, negate, join, choose}
 use Rattle.store.specs.Layout.{used, leaves, is_handle}
 use Rattle.store.specs.Meaning.{meaning}
-use Rattle.store.specs.Outcome.{Outcome, outcome}
+use Rattle.store.specs.Outcome.{Outcome}
 use Rattle.store.specs.Sound.{sound}
 use Rattle.tables.specs.declared.answer.TableFault.{TableFault}
 use Rattle.tables.specs.Faults.{table_fault}
@@ -101,10 +100,8 @@ module _ (limits : Limits) (s : List ℕ) {t : Bool} (et : t ≡ sound limits s)
       unfolding build
       build_is x ex = rw (← et, e, ex)
 
-      pub build_refused : {g : TableFault} → f ≡ Err g → {r : Built} → IsErr r × IsErrAnd r (λ e. e ≡ BadTable g) → outcome r s ≡ build limits s table
-      build_refused {g} d {r} is =
-          let x = err_from_is_err_and r is.1 in
-          ap (λ a. outcome a s) (x.1 ∙ ap Err x.2) ∙ build_is (some g) (fault_found (table_fault limits s table) (sym ef ∙ d))
+      pub build_refused : {g : TableFault} → f ≡ Err g → {b : BuildFault} → b ≡ BadTable g → refused s b ≡ build limits s table
+      build_refused {g} d is = ap (refused s) is ∙ build_is (some g) (fault_found (table_fault limits s table) (sym ef ∙ d))
 
       module _ (d : f ≡ Ok tt) where
         taken : table_fault limits s table ≡ none

@@ -24,8 +24,10 @@ pub fn build_within(limits: Limits, store: &mut [u32], table: &[u32]) -> Result<
     if !is_sound(limits, store) {
         return Err(BuildFault::NotSound);
     }
-    table_fault(limits, store, table)?;
-    add(limits, store, Subject::Table(table))
+    match table_fault(limits, store, table) {
+        Ok(()) => add(limits, store, Subject::Table(table)),
+        Err(fault) => Err(BuildFault::from(fault)),
+    }
 }
 
 // The handles of the leaves.

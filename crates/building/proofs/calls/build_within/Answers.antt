@@ -6,9 +6,8 @@ use Rattle.building.proofs.calls.build_within.Goals as goal
 pub returns-then-not-is_sound : goal.returns-then-not-is_sound
 returns-then-not-is_sound c = search (rules, build_unsound)
 
-pub returns-in_err-table_fault : goal.returns-in_err-table_fault
-returns-in_err-table_fault c =
-    build_refused _ _ c.is_sound.ensures.sound c.if-not-is_sound.false _ c.table_fault.ensures c.in_err-table_fault.was c.from_residual.ensures
+pub returns-in-Err : goal.returns-in-Err
+returns-in-Err c = search (rules, build_refused)
 
-pub returns : goal.returns
-returns c = search (rules, builds)
+pub returns-in-Ok : goal.returns-in-Ok
+returns-in-Ok c = search (rules, builds)
