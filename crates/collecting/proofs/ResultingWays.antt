@@ -60,12 +60,12 @@ module _ (limits : Limits) (n order : ℕ) (words : List ℕ) (count : ℕ) (s :
       opens e = rw (short, le-ltb (length s) (heading_length + length list) list_room, e, sub-zero)
 
 -- ---- what is collected
-module _ (order : ListOrder) (limits : Limits) (n : ℕ) (raw s : List ℕ) {c : Result Questions out.OutOfLimits} (of : Collects (order_of order) (terms_within limits n) (equations raw) c) where
+module _ (order : ListOrder) (limits : Limits) (n : ℕ) (raw s : List ℕ) {N : ℕ} {c : Result (Questions N) out.OutOfLimits} (of : Collects (order_of order) (terms_within limits n) (equations raw) c) where
   pub out_of_limits : {f : out.OutOfLimits} {r : RawOpened} → c ≡ Err f → r ≡ Err OutOfLimits → outcome r s ≡ open_collected order limits n raw s
   unfolding open_collected
   out_of_limits i d = rw (d, rw i at of)
 
-  module _ {q : Questions} (i : c ≡ Ok q) where
+  module _ {q : Questions N} (i : c ≡ Ok q) where
     found : (all_allowed (terms_within limits n) (equations raw) ≡ true) × Holds q.words q.count (resulting (order_of order) (equations raw))
     found = rw i at of
 

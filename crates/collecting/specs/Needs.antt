@@ -34,21 +34,21 @@ pub record HasPut (qs : List Equation) (words : List ℕ) (count found : ℕ) : 
   pub holds : Holds words found qs
 
 -- what became of one raw equation, and of a raw list
-abbrev pub CollectsOne : Order → TermLimits → Equation → Questions → Result Unit OutOfLimits → Questions → Type 0
+abbrev pub CollectsOne : {N : ℕ} → Order → TermLimits → Equation → Questions N → Result Unit OutOfLimits → Questions N → Type 0
 CollectsOne order limits e old (Ok done) new =
     (both_allowed limits e ≡ true) × HasPut (with_equation order e (first_questions old.words old.count)) new.words old.count new.count
 CollectsOne order limits e old (Err fault) new = both_allowed limits e ≡ false
 
 -- with the first k equations of a raw list collected: what is to come of the rest is what is to come of all
-pub record Collecting (order : Order) (limits : TermLimits) (raw : List ℕ) (q : Questions) (k : ℕ) : Type 0 where
+pub record Collecting {N : ℕ} (order : Order) (limits : TermLimits) (raw : List ℕ) (q : Questions N) (k : ℕ) : Type 0 where
   pub few : q.count ≤ k
   pub allowed : all_allowed limits (equations raw) ≡ all_allowed limits (equations (drop (2 * k) raw))
   pub results : resulting order (equations raw) ≡ collected order (first_questions q.words q.count) (equations (drop (2 * k) raw))
 
-abbrev pub Collects : Order → TermLimits → List Equation → Result Questions OutOfLimits → Type 0
+abbrev pub Collects : {N : ℕ} → Order → TermLimits → List Equation → Result (Questions N) OutOfLimits → Type 0
 Collects order limits es (Ok found) = (all_allowed limits es ≡ true) × Holds found.words found.count (resulting order es)
 Collects order limits es (Err fault) = all_allowed limits es ≡ false
 
 -- the words of questions
-abbrev pub words_of : Questions → List ℕ
+abbrev pub words_of : {N : ℕ} → Questions N → List ℕ
 words_of q = take (2 * q.count) q.words

@@ -8,7 +8,7 @@ ghost use Rattle.terms.specs.Limits as bounds;
 ghost use Rattle.terms.specs.Order.{order_number};
 
 use crate::collecting::collect;
-use crate::questions::{MOST_EQUATIONS, Questions};
+use crate::questions::{MOST_EQUATIONS, MOST_WORDS, Questions};
 use raw_lists::RawFault;
 use store::{HEADING, write_opened};
 use terms::{Limits, ListOrder, limits_of_store, terms_within};
@@ -19,7 +19,7 @@ fn open_resulting(
     limits: Limits,
     n: u32,
     order: ListOrder,
-    questions: &Questions,
+    questions: &Questions<MOST_WORDS>,
     store: &mut [u32],
 ) -> Result<(), RawFault>
     ensures { outcome result store.new ≡ spec.open_resulting limits n (order_number order) (words_of questions.now) store.old }
@@ -52,7 +52,7 @@ fn open_raw_in(
     if MOST_EQUATIONS < raw.len() / 2 {
         return Err(RawFault::TooManyEquations);
     }
-    let questions = collect(known, terms_within(limits, n), raw)?;
+    let questions = collect::<MOST_WORDS>(known, terms_within(limits, n), raw)?;
     open_resulting(limits, n, known, &questions, store)
 }
 

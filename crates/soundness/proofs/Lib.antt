@@ -1,2 +1,3 @@
 pub mod EntryWays
 pub mod SoundWays
+mod Zeros
