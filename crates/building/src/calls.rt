@@ -24,6 +24,7 @@ pub fn build_within(limits: Limits, store: &mut [u32], table: &[u32]) -> Result<
     if !is_sound(limits, store) {
         return Err(BuildFault::NotSound);
     }
+    // A `match` and no `?`, so that a wrong edit can put another fault in the place of the table's.
     match table_fault(limits, store, table) {
         Ok(()) => add(limits, store, Subject::Table(table)),
         Err(fault) => Err(BuildFault::from(fault)),

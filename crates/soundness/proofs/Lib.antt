@@ -1,3 +1,3 @@
 pub mod EntryWays
 pub mod SoundWays
-mod Zeros
+mod ZeroParts

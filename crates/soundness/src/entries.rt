@@ -6,6 +6,7 @@ ghost use Rattle.store.specs.Layout.{leaves};
 ghost use Rattle.store.specs.Sound as spec;
 ghost use Rattle.terms.specs.Limits.{most_entries};
 
+use crate::zeros::all_zero;
 use index::entries_differ;
 use store::{Entry, LEAVES, entry_from, question_count, wide};
 
@@ -64,14 +65,11 @@ impl<'a> Entries<'a> {
         self.store.get(self.start + 3 * self.count..).unwrap_or(&[])
     }
 
-    // Whether the words after the entries are zero. By `fold` and `&`: no word decides whether the next is looked at, so that several are compared at once.
-    // Most words of a large store are unused.
+    // Whether the words after the entries are zero.
     fn zero_after(self) -> bool
         ensures { result ≡ spec.all_zero (drop (self.entry.start + 3 * self.entry.count) self.entry.store.now) }
     {
-        self.unused()
-            .iter()
-            .fold(true, |zero, word| zero & (*word == 0))
+        all_zero(self.unused())
     }
 
     // Whether the entries keep their rules, no two of them are equal, and the words after them are zero.

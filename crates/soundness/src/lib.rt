@@ -7,6 +7,7 @@ ghost use Rattle.store.specs.Sound as spec;
 ghost use Rattle.terms.specs.Needs.{FitLimits};
 
 mod entries;
+mod zeros;
 
 use crate::entries::Entries;
 use store::{

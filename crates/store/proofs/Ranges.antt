@@ -1,11 +1,10 @@
--- A test that code makes of each number of a range, or of each word of a slice, is the test of every number below the range's end, or of every word: both go
--- through the same numbers and words, the one from the front and the other from the back.
+-- A test that code makes of each number of a range is the test of every number below the range's end: both go through the same numbers, the one from the front
+-- and the other from the back.
 use Prim.Native.Nat.{ℕ, zero, suc, ◌+◌}
-use mathlib.Core.Path.{◌≡◌, refl, ◌∙◌, ap, sym}
+use mathlib.Core.Path.{◌≡◌, refl, ◌∙◌, ap}
 use mathlib.Core.Bool.{Bool, true, false, ◌&&◌}
 use mathlib.Core.List.{List, [], ◌∷◌, ◌++◌}
 use native.Mathlib.Omega.{arith}
-use lib.Dec.{eqb}
 use Rattle.std.specs.List.{list_all, range_with_len}
 use Rattle.std.proofs.iter.Yields.{nat_range_steps}
 use Rattle.std.proofs.lemmas.Iterator.{YieldsList-from_range}
@@ -18,7 +17,7 @@ use Rattle.std.specs.Prelude.{Option}
 use Rattle.std.specs.declared.ops.Range.{Range}
 use denote.Param.Members.{Mut}
 use Rattle.std.proofs.lemmas.List.Folds.{list_all-append}
-use Rattle.store.specs.Sound.{all_below, all_zero}
+use Rattle.store.specs.Sound.{all_below}
 
 range_more : (a n : ℕ) → range_with_len a (suc n) ≡ range_with_len a n ++ (a + n) ∷ []
 range_more a zero = let e : a + 0 ≡ a = omega arith in rw e
@@ -38,11 +37,6 @@ module _ (p : ℕ → Bool) where
       let e : 0 + n ≡ n = omega arith in
       ap (list_all p) (range_more 0 n) ∙ list_all-append p (range_with_len 0 n) ((0 + n) ∷ [])
       ∙ simp (last_alone, list_all-range n, e)
-
-pub list_all-zero : (ws : List ℕ) → list_all (λ w. eqb w 0) ws ≡ all_zero ws
-unfolding all_zero
-list_all-zero [] = refl
-list_all-zero (w ∷ ws) = ap (λ b. eqb w 0 && b) (list_all-zero ws)
 
 -- What `(0..n).all(..)` answers, whose closure answers as a test.
 pub all_tested : {F : Type 0} {g : Mut F (ℕ × Unit {0}) Bool} {s : Range ℕ} (p : ℕ → Bool) (n : ℕ) {u : Range ℕ} {f : F} {r : Bool}
