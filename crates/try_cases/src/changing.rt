@@ -14,12 +14,12 @@ use sheet::{
 };
 use std::io;
 
-// What a call does to a store. A call that adds a diagram stands with the one whose tests it has to pass.
+// What a call does to a store. A call that adds a diagram may have to pass the tests of another one first.
 #[derive(Clone, Copy)]
 enum Change<'a> {
     Open(Opening<'a>),
     OpenRaw(Opening<'a>),
-    Add(Call<'a>, Call<'a>),
+    Add(Call<'a>, Option<Call<'a>>),
 }
 
 // A list stands after the number of fields and the order; a rule table stands by itself.
@@ -38,27 +38,30 @@ fn change_of<'a>(name: Name, given: &Arguments, words: &'a [u32]) -> Change<'a> 
     // The first three numbers have to be handles, also those that the call doesn't take.
     let choice = Call::Choose(a, b, c);
     match name.letter {
-        b'b' => Change::Add(Call::Build(words), Call::Build(words)),
-        b'n' => Change::Add(Call::Negate(a), choice),
-        b'j' => Change::Add(Call::Join(a, b), choice),
-        b'c' => Change::Add(choice, choice),
+        b'b' => Change::Add(Call::Build(words), None),
+        b'n' => Change::Add(Call::Negate(a), Some(choice)),
+        b'j' => Change::Add(Call::Join(a, b), Some(choice)),
+        b'c' => Change::Add(choice, None),
         _ if name.raw => Change::OpenRaw(opening),
         _ => Change::Open(opening),
     }
 }
 
-// What the evaluator expects of a call that has to pass another's tests.
+// What the evaluator expects of a call, which passes the tests of another one first, if there is one.
 fn expect_tested(
     limits: Limits,
     store: &[u32],
     call: Call<'_>,
-    tested: Call<'_>,
+    tested: Option<Call<'_>>,
     after: &mut [u32],
 ) -> Result<u32, Refusal> {
-    match expect_added(limits, Store(store), tested, after) {
-        Err(refusal @ (Refusal::NoStore | Refusal::NoHandle)) => Err(refusal),
-        _ => expect_added(limits, Store(store), call, after),
+    if let Some(tested) = tested {
+        let expected = expect_added(limits, Store(store), tested, after);
+        if let Err(refusal @ (Refusal::NoStore | Refusal::NoHandle)) = expected {
+            return Err(refusal);
+        }
     }
+    expect_added(limits, Store(store), call, after)
 }
 
 impl Change<'_> {
