@@ -14,9 +14,11 @@ pub struct Arguments {
     is_open: bool,
 }
 
-// A number with one more digit, modulo 2^32.
+// A number with one more digit, modulo 2^32. A digit's byte is its value above that of 0.
 fn longer(number: u32, digit: u8) -> u32 {
-    number.wrapping_mul(10).wrapping_add(u32::from(digit % 48))
+    number
+        .wrapping_mul(10)
+        .wrapping_add(u32::from(digit % b'0'))
 }
 
 impl Arguments {
@@ -60,22 +62,22 @@ impl Arguments {
         self.has_bar = self.count < MOST_NUMBERS;
     }
 
-    // A number, 0 if there are not so many.
+    // What stands at a place, 0 where no number was written.
     pub fn number(&self, place: usize) -> u32 {
         at(&self.words, place)
     }
 
-    // All numbers.
+    // The numbers, as many as are counted.
     pub fn list(&self) -> &[u32] {
         first(&self.words, self.count)
     }
 
-    // The numbers after the first one; without any the room for them, which is zeros.
+    // The numbers after the first one; all the room for them if none is counted.
     pub fn table(&self) -> &[u32] {
         self.words.get(1..self.count).unwrap_or(&self.words)
     }
 
-    // All numbers, and the room behind them.
+    // The numbers, and the room behind them.
     pub fn words(&self) -> [u32; MOST_NUMBERS] {
         self.words
     }

@@ -35,7 +35,7 @@ fn change_of<'a>(name: Name, given: &Arguments, words: &'a [u32]) -> Change<'a> 
         order: b,
         list: list_of(words),
     };
-    // The first three numbers have to be handles, also those that the call doesn't take.
+    // The first three numbers have to be handles, also those that the call doesn't take, so that a stray one shows as a difference.
     let choice = Call::Choose(a, b, c);
     match name.letter {
         b'b' => Change::Add(Call::Build(words), None),
